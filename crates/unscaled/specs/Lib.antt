@@ -1,2 +1,5 @@
 pub mod Faults
 pub mod Entries
+pub mod Placements
+pub mod Records
+pub mod Headers

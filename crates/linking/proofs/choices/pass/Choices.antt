@@ -1,0 +1,5 @@
+use Rattle.linking.specs.Choices.{Shows, stage, at}
+use Rattle.linking.proofs.choices.pass.Given as given
+
+abbrev pub Inv-loop-j : given.InvT-loop-j
+Inv-loop-j l = Shows (l .entry .table) (l .n) (stage (l .rule) (at (l .entry .table)) (l .n) (l .i) (l .j)) (l .table)

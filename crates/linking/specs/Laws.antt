@@ -1,0 +1,54 @@
+-- The laws of a linked table, in the subject's words. ys is what linking the first n of xs leaves.
+use mathlib.Core.Path.{_≡_}
+use mathlib.Core.Bool.{Bool, true, false}
+use mathlib.Core.Logic.{_⊎_}
+use mathlib.Core.List.{List}
+use Prim.Native.Nat.{ℕ, _<_, _≤_}
+use lib.IntN.{ℤ, pos, _-ℤ_}
+use lib.ListN.{length}
+use lib.Signed.{_<ℤ_, _≤ℤ_}
+use Rattle.std.specs.Numbers.{minZ, maxZ}
+use Rattle.std.specs.declared.option.Option.{Option}
+use Rattle.std.specs.declared.option.Option.the-variants.{Some, None}
+use Rattle.outline.specs.Directions.{Opposite}
+use Rattle.segments.specs.declared.tables.Segment.{Segment}
+use Rattle.linking.specs.declared.rules.Rule.{Rule}
+use Rattle.linking.specs.Rules.{cost}
+use Rattle.linking.specs.Choices.{at}
+
+-- a of the major direction and b of the opposite one are partners when b's position is greater and
+-- the smaller greatest coordinate less the larger least is at least T
+pub record Partners (r : Rule) (a b : Segment) : Type 0 where
+  pub of-major : a .dir ≡ r .major
+  pub of-opposite : Opposite (r .major) (b .dir)
+  pub beyond : a .pos .0 <ℤ b .pos .0
+  pub overlapping : pos (r .threshold) ≤ℤ (minZ (a .«max_coord» .0) (b .«max_coord» .0) -ℤ maxZ (a .«min_coord» .0) (b .«min_coord» .0))
+
+-- a and b are partners, either way round, at the score s
+abbrev pub PartnersAt : Rule → Segment → Segment → ℕ → Type 0
+PartnersAt r a b s = (Partners r a b × (s ≡ cost r a b)) ⊎ (Partners r b a × (s ≡ cost r b a))
+
+-- j is i's lowest-scoring partner below 32,000, the first by index on a tie
+pub record Chooses (r : Rule) (n : ℕ) (xs : List Segment) (i j : ℕ) : Type 0 where
+  pub inside : j < n
+  pub scored : ℕ
+  pub partner : PartnersAt r (at xs i) (at xs j) scored
+  pub below : scored < 32000
+  pub lowest : (k s : ℕ) → k < n → PartnersAt r (at xs i) (at xs k) s → scored ≤ s
+  pub first : (k s : ℕ) → k < j → PartnersAt r (at xs i) (at xs k) s → scored < s
+
+-- links
+pub record Stems (r : Rule) (n : ℕ) (xs ys : List Segment) : Type 0 where
+  -- linked exactly when each is the other's choice
+  pub chose : (i j : ℕ) → i < n → at ys i .link ≡ Some j → Chooses r n xs i j × Chooses r n xs j i
+  pub linked : (i j : ℕ) → i < n → Chooses r n xs i j → Chooses r n xs j i → at ys i .link ≡ Some j
+  -- a link is returned, and no third segment has it
+  pub returned : (i j : ℕ) → i < n → at ys i .link ≡ Some j → at ys j .link ≡ Some i
+  pub alone : (i j k : ℕ) → i < n → k < n → at ys i .link ≡ Some j → at ys k .link ≡ Some j → k ≡ i
+
+-- a choice in any order: among n, j is the first of the best of those able
+pub record FirstBest (ok : ℕ → Bool) (lt : ℕ → ℕ → Bool) (n j : ℕ) : Type 0 where
+  pub inside : j < n
+  pub able : ok j ≡ true
+  pub best : (k : ℕ) → k < n → ok k ≡ true → lt k j ≡ false
+  pub first : (k : ℕ) → k < j → ok k ≡ true → lt j k ≡ true

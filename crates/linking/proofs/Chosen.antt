@@ -1,18 +1,18 @@
 -- A choice is the first of the lowest below 32000, and a link a choice that is returned.
 use mathlib.Core.Path.{_≡_, refl, sym, ap, subst, _∙_}
 use mathlib.Core.Logic.{_⊎_, inl, inr, ⊎-elim}
-use mathlib.Core.Bool.{Bool, true, false, cond}
+use mathlib.Core.Bool.{Bool, true, false, cond, _||_}
 use Prim.Native.Nat.{ℕ, zero, suc, _+_, _<_, _≤_}
 use native.Mathlib.Omega.{arith}
 use lib.Dec.{ltb, eqb}
-use Rattle.std.proofs.shelf.Tests.{ltb-true, ltb-false, eqb-true, eq-eqb, cases-eq, cases-lt, cases-bool, both-ways, cond-true, cond-false}
+use Rattle.std.proofs.shelf.Tests.{lt-ltb, le-ltb, eqb-true, eq-eqb, cases-eq, cases-lt, cases-bool, both-ways, cond-true, cond-false, or-left, or-right, or-from}
 use Rattle.std.specs.declared.option.Option.{Option}
 use Rattle.std.specs.declared.option.Option.the-variants.{Some, None}
 use Rattle.std.specs.Slices.{Ranks}
 use Rattle.std.proofs.shelf.Ways.{tells}
 use Rattle.std.proofs.shelf.Bests.{ranks-by-number}
 use Rattle.linking.specs.Choices.{worth, able, ranked, ahead, chosen}
-use Rattle.linking.specs.Links.{picks, returned, paired, link-of}
+use Rattle.linking.specs.Links.{picks, returned, paired, link-of, serif-by, serif-of}
 use Rattle.linking.specs.Laws.{FirstBest}
 use Rattle.linking.proofs.Settling.{cases-option}
 
@@ -110,3 +110,39 @@ link-back ch i j e = let two = link-from ch i j e in link-to ch j i (two .1) (tw
 
 pub link-alone : (ch : ℕ → Option ℕ) (i j k : ℕ) → link-of ch i ≡ Some j → link-of ch k ≡ Some j → k ≡ i
 link-alone ch i j k e f = let a = link-from ch i j e .1 in let b = link-from ch k j f .1 in cc
+
+-- ---- serifs, of any choice
+
+pub linked-paired : (ch : ℕ → Option ℕ) (i j : ℕ) → link-of ch i ≡ Some j → paired ch i ≡ true
+linked-paired ch i j e = let two = link-from ch i j e in ap (returned ch i) (two .0) ∙ ap (λ o. picks o i) (two .1) ∙ eq-eqb i i refl
+
+pub unlinked-unpaired : (ch : ℕ → Option ℕ) (i t : ℕ) → ch i ≡ Some t → link-of ch i ≡ None → paired ch i ≡ false
+unlinked-unpaired ch i t c e =
+    ⊎-elim
+    (λ (p : paired ch i ≡ true).
+      let n : Some t ≡ None = sym c ∙ sym (cond-true (paired ch i) (ch i) None p) ∙ e in
+      let z : _≡_ {A = ℕ} 0 1 = cc in absurd (omega arith))
+    (λ (p : paired ch i ≡ false). p)
+    (cases-bool (paired ch i))
+
+-- of an unlinked segment that chose t
+serif-read : (ch : ℕ → Option ℕ) (i t : ℕ) → ch i ≡ Some t → link-of ch i ≡ None → serif-of ch i ≡ cond (paired ch t || ltb i t) (ch t) None
+serif-read ch i t c e = cond-false (paired ch i) None (serif-by ch i (ch i)) (unlinked-unpaired ch i t c e) ∙ ap (serif-by ch i) c
+
+pub serif-given : (ch : ℕ → Option ℕ) (i t : ℕ) → ch i ≡ Some t → link-of ch i ≡ None → ((u : ℕ) × (link-of ch t ≡ Some u)) ⊎ (i < t) → serif-of ch i ≡ ch t
+serif-given ch i t c e w =
+    serif-read ch i t c e ∙
+    cond-true (paired ch t || ltb i t) (ch t) None
+    (⊎-elim (λ (q : (u : ℕ) × (link-of ch t ≡ Some u)). or-left (paired ch t) (ltb i t) (linked-paired ch t (q .0) (q .1)))
+      (λ (q : i < t). or-right (paired ch t) (ltb i t) (lt-ltb i t q)) w)
+
+pub serif-withheld : (ch : ℕ → Option ℕ) (i t u : ℕ) → ch i ≡ Some t → link-of ch i ≡ None → ch t ≡ Some u → link-of ch t ≡ None → t ≤ i → serif-of ch i ≡ None
+serif-withheld ch i t u c e d f l =
+    serif-read ch i t c e ∙
+    cond-false (paired ch t || ltb i t) (ch t) None (or-from (paired ch t) (ltb i t) (unlinked-unpaired ch t u d f) (le-ltb i t l))
+
+pub serif-linked : (ch : ℕ → Option ℕ) (i j : ℕ) → link-of ch i ≡ Some j → serif-of ch i ≡ None
+serif-linked ch i j e = cond-true (paired ch i) None (serif-by ch i (ch i)) (linked-paired ch i j e)
+
+pub serif-unchosen : (ch : ℕ → Option ℕ) (i : ℕ) → ch i ≡ None → serif-of ch i ≡ None
+serif-unchosen ch i c = ap (λ o. cond (returned ch i o) None (serif-by ch i o)) c

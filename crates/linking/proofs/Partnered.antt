@@ -132,6 +132,11 @@ module _ (r : Rule) (some : 0 < r .threshold) (g : ℕ → Segment) (i k : ℕ) 
       let two = cost-price r some (g k) (g i) (omega (arith, q)) in inr (two .0, q ∙ two .1))
       (cases-bool (same (g i .dir) (r .major)))
 
+-- partners are so either way round
+pub partners-back : (r : Rule) (a b : Segment) (s : ℕ) → PartnersAt r a b s → PartnersAt r b a s
+partners-back r a b s (inl h) = inr h
+partners-back r a b s (inr h) = inl h
+
 -- ---- a choice in words
 
 pub best-chooses : (r : Rule) (some : 0 < r .threshold) (n : ℕ) (xs : List Segment) (i j : ℕ) → FirstBest (able (score r (at xs) i)) (ranked (score r (at xs) i)) n j → Chooses r n xs i j

@@ -13,7 +13,7 @@ ghost use Rattle.std.specs.declared.result.Result.the-variants.{Ok};
 ghost use Rattle.linking.specs.declared.linker.LinkFault.the-variants as fault;
 ghost use Rattle.linking.specs.Rules.{rule-of, rule-by};
 ghost use Rattle.linking.specs.Links.{linked-table};
-ghost use Rattle.linking.specs.Laws.{Stems};
+ghost use Rattle.linking.specs.Laws.{Linking};
 ghost use Rattle.linking.specs.Answers.{number, answer, table-after};
 ghost use Rattle.linking.specs.Tried.{Tried};
 
@@ -53,7 +53,7 @@ impl LinkFault {
 pub fn link_segments(table: &mut [Segment], n: usize, settings: &Settings, major: Direction)
     requires { ⌜ n ≤ length (now table) ⌝ ∗ ⌜ n ≤ 1001 ⌝ }
     ensures table { λ _. ⌜ now (table .exit) ≡ linked-table (rule-by (now (settings .entry)) major) n (now (table .entry)) ⌝ }
-    ensures stems { λ _. ⌜ Stems (rule-by (now (settings .entry)) major) n (now (table .entry)) (now (table .exit)) ⌝ }
+    ensures linking { λ _. ⌜ Linking (rule-by (now (settings .entry)) major) n (now (table .entry)) (now (table .exit)) ⌝ }
 {
     let rule = Rule::new(settings, major);
     choose(table, n, &rule);
@@ -70,7 +70,7 @@ pub fn link(
 ) -> Result<(), LinkFault>
     ensures answer { λ r. ⌜ r ≡ answer units width n (length (now (table .entry))) ⌝ }
     ensures after { λ _. ⌜ now (table .exit) ≡ table-after units width major n (now (table .entry)) ⌝ }
-    ensures stems { λ r. ⌜ (r ≡ Ok tt → Stems (rule-of units width major) n (now (table .entry)) (now (table .exit))) ⌝ }
+    ensures linking { λ r. ⌜ (r ≡ Ok tt → Linking (rule-of units width major) n (now (table .entry)) (now (table .exit))) ⌝ }
 {
     let settings = Settings::new(units, width)?;
     if n > MOST_ENTRIES {

@@ -4,7 +4,7 @@ use native.Mathlib.Omega.{arith}
 use Rattle.linking.specs.Rules.{rule-by}
 use Rattle.linking.specs.Choices.{Shows, at}
 use Rattle.linking.specs.Links.{finished}
-use Rattle.linking.proofs.Finished.{unsettled, shows-finished, is-linked, stems}
+use Rattle.linking.proofs.Finished.{unsettled, shows-finished, is-linked, linking}
 use Rattle.linking.proofs.linker.link_segments.Needs as need
 
 pub settle-requires : need.settle-requires
@@ -19,4 +19,4 @@ returns c =
     let h : Shows xs n (finished r (at xs) n) u =
     subst (λ q. Shows xs n (finished q (at xs) n) u) (c .new-rule .ensures)
     (shows-finished (c .new-rule .result) n xs (c .choose .last .table) (c .choose .ensures) u (c .settle .ensures)) in
-    record { table = is-linked r n xs u h; stems = stems r (omega arith) n xs u h }
+    record { table = is-linked r n xs u h; linking = linking r (omega arith) n xs u h }

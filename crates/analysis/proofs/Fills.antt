@@ -1,0 +1,51 @@
+use mathlib.Core.Path.{_≡_, refl, sym, ap, _∙_}
+use mathlib.Core.List.{List, [], _∷_, map}
+use Prim.Native.Nat.{ℕ, _+_, _<_}
+use native.Mathlib.Nat.{zero-add}
+use native.Mathlib.Omega.{arith}
+use lib.IntN.{ℤ}
+use mathlib.Core.Bool.{Bool}
+use lib.ListN.{length, getD, replicate}
+use Rattle.std.proofs.shelf.Lists.{ext-getD, getD-replicate, length-replicate}
+use Rattle.outline.specs.declared.points.DrawnPoint.{DrawnPoint}
+use Rattle.walk.specs.declared.marks.Mark.{Mark}
+use Rattle.outline.specs.declared.points.Point.{Point}
+use Rattle.analysis.specs.Records.{record-at, records, analysed, marks-of, shifted, is-near, preceding}
+use Rattle.walk.specs.Steps.{origin, following}
+use Rattle.walk.specs.Marks.{blank}
+
+pub filled : {X : Type 0} (d : X) (xs : List X) (n : ℕ) → length xs ≡ n → ((k : ℕ) → k < n → getD xs k d ≡ d) → xs ≡ replicate n d
+filled d xs n e h =
+    ext-getD d xs (replicate n d) (e ∙ sym (length-replicate n d))
+    (λ i in′. let lt : i < n = omega arith in h i lt ∙ sym (getD-replicate n i d d lt))
+
+shift-one : (N b : ℕ) (ps : List DrawnPoint) (ms : List Mark) (i : ℕ) → record-at N b ps ms i ≡ shifted b (record-at N 0 ps ms i)
+unfolding record-at
+shift-one N b ps ms i = simp zero-add
+
+shift-all : (N b : ℕ) (ps : List DrawnPoint) (ms : List Mark) (is : List ℕ)
+    → map (record-at N b ps ms) is ≡ map (shifted b) (map (record-at N 0 ps ms) is)
+shift-all N b ps ms [] = refl
+shift-all N b ps ms (i ∷ is) =
+    let one = shift-one N b ps ms i in
+    let rest = shift-all N b ps ms is in
+    cc
+
+pub alone : (F : ℤ → ℤ → ℤ → ℤ → Bool) (N b : ℕ) (ps : List DrawnPoint) → analysed F N b ps ≡ map (shifted b) (analysed F N 0 ps)
+unfolding analysed records
+alone F N b ps = shift-all N b ps (marks-of F N ps) _
+
+-- a record, field by field
+pub record-is : (N b : ℕ) (ps : List DrawnPoint) (ms : List Mark) (i : ℕ) (x y : ℤ) (n : Bool) (next prev : ℕ)
+    → x ≡ getD ps i origin .x → y ≡ getD ps i origin .y → n ≡ is-near N ps i → next ≡ following (length ps) i → prev ≡ preceding (length ps) i
+    → record {
+      flags = record { kind = getD ps i origin .kind; near = n; «weak_interpolation» = getD ms i blank .weak };
+      x = x;
+      y = y;
+      «in_dir» = getD ms i blank .«in_dir»;
+      «out_dir» = getD ms i blank .«out_dir»;
+      «next_ix» = b + next;
+      «prev_ix» = b + prev;
+    } ≡ record-at N b ps ms i
+unfolding record-at
+record-is N b ps ms i x y n next prev e₁ e₂ e₃ e₄ e₅ = simp (e₁, e₂, e₃, e₄, e₅)

@@ -1,0 +1,9 @@
+pub mod Ands
+pub mod Bypasses
+pub mod Judges
+pub mod Fills
+pub mod Links
+pub mod Products
+pub mod Turns
+pub mod Ranges
+pub mod Tilings

@@ -1,0 +1,24 @@
+use mathlib.Core.Path.{_≡_, _∙_, ap}
+use native.Mathlib.Omega.{arith}
+use borrow.Author.Needs.{needs}
+use Prim.Native.Nat.{ℕ}
+use lib.ListN.{length, replicate}
+use Rattle.walk.specs.Marks.{blank}
+use Rattle.analysis.proofs.Fills.{alone}
+use Rattle.analysis.proofs.Links.{walked-linked, whole}
+use Rattle.analysis.proofs.contours.analyze_contour.Needs as need
+
+pub simplify-topology-requires : need.simplify-topology-requires
+simplify-topology-requires g c κs =
+    let e : length (c .args .marks .now) ≡ length (c .args .points .now) = omega arith in (
+      omega arith,
+      walked-linked _ (c .args .points .now) _ _ (omega arith)
+          (c .clear-marks .ensures ∙ ap (λ (n : ℕ). replicate n blank) e) (c .compute-directions .ensures),
+    )
+
+pub returns : need.returns
+returns g c =
+    let e : length (c .args .marks .now) ≡ length (c .args .points .now) = omega arith in
+    let v = whole _ _ _ _ _ (c .args .points .now) _ _ _ _ _ (c .near-limit .ensures .value) e (c .clear-marks .ensures) (c .compute-directions .ensures)
+    (c .simplify-topology .ensures .after) (c .check-remaining-weak-points .ensures) (c .write-records .ensures) in
+    record { value = v; alone = v ∙ alone _ _ _ (c .args .points .now) }

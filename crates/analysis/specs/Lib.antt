@@ -1,0 +1,4 @@
+pub mod Passes
+pub mod Records
+pub mod Outlines
+pub mod Areas

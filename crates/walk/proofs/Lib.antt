@@ -1,0 +1,4 @@
+pub mod Backs
+pub mod Walks
+pub mod Spreads
+pub mod Deals

@@ -1,0 +1,4 @@
+pub mod Steps
+pub mod Starts
+pub mod Legs
+pub mod Marks

@@ -2,4 +2,3 @@ pub mod Faults
 pub mod Entries
 pub mod Placements
 pub mod Records
-pub mod Headers

@@ -1,6 +1,6 @@
 // What a source finds wrong with an entry.
 ghost use mathlib.Core.Path.{_≡_};
-ghost use Rattle.unscaled.specs.Faults.{number};
+ghost use Rattle.unscaled.specs.Faults.{number, origin, raised};
 
 #[derive(Clone, Copy)]
 pub enum FaultReason {
@@ -18,6 +18,28 @@ pub struct SourceFault {
 }
 
 impl SourceFault {
+    // A fault where it arises: no placement stands above it.
+    pub fn new(reason: FaultReason, index: usize) -> SourceFault
+        ensures { λ r. ⌜ r ≡ origin reason index ⌝ }
+    {
+        SourceFault {
+            reason,
+            index,
+            placements: 0,
+        }
+    }
+
+    // The fault as a placement above passes it on.
+    pub fn raise(self) -> SourceFault
+        ensures { λ r. ⌜ r ≡ raised self ⌝ }
+    {
+        SourceFault {
+            reason: self.reason,
+            index: self.index,
+            placements: self.placements.saturating_add(1),
+        }
+    }
+
     // The number of the refusal.
     pub fn number(&self) -> u8
         ensures { λ r. ⌜ r ≡ number (now (self .entry) .reason) ⌝ }

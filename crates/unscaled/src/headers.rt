@@ -5,8 +5,8 @@ ghost use lib.Dec.{ltb};
 ghost use Rattle.std.specs.declared.result.Result.the-variants.{Ok, Err};
 ghost use Rattle.unscaled.specs.Faults.{record-number};
 ghost use Rattle.unscaled.specs.declared.headers.RecordFault.the-variants.{Settings as OfSettings};
-ghost use Rattle.unscaled.specs.Records.{corner-of};
-ghost use Rattle.unscaled.specs.Headers.{header, told};
+ghost use Rattle.unscaled.specs.Records.{corner-of, header, told};
+use crate::records::POINT_BYTES;
 use outline::Settings;
 use outline::SettingsFault;
 
@@ -14,8 +14,6 @@ const VERSION: u8 = 1;
 
 // What stands before the bytes that the length counts: the version, and the length itself.
 const UNCOUNTED: usize = 3;
-
-const POINT_BYTES: usize = 5;
 
 // The corner rule that a record asks for.
 #[derive(Clone, Copy)]

@@ -4,7 +4,9 @@ ghost use mathlib.Core.Bool.{cond};
 ghost use lib.IntN.{_+ℤ_};
 ghost use Rattle.std.specs.declared.option.Option.the-variants.{Some, None};
 ghost use Rattle.std.specs.declared.result.Result.the-variants.{Ok};
-ghost use Rattle.unscaled.specs.Placements.{in-range, one-more, moved, raised, placed-list};
+ghost use Rattle.std.specs.Results.{mapped};
+ghost use Rattle.unscaled.specs.Faults.{one-more, raised};
+ghost use Rattle.unscaled.specs.Placements.{in-range, moved, placed-list};
 use crate::faults::FaultReason;
 use crate::faults::SourceFault;
 use crate::points::UnscaledPoint;
@@ -47,25 +49,17 @@ fn move_point(
             kind: point.kind,
             is_contour_start: point.is_contour_start,
         }),
-        _ => Err(SourceFault {
-            reason: FaultReason::MovedOut,
-            index,
-            placements: 0,
-        }),
+        _ => Err(SourceFault::new(FaultReason::MovedOut, index)),
     }
 }
 
-// The entry, its fault told of one placement more.
-fn raise(entry: Result<UnscaledPoint, SourceFault>) -> Result<UnscaledPoint, SourceFault>
-    ensures { λ r. ⌜ r ≡ raised entry ⌝ }
+// What a placement passes on of an entry below: a point, or a fault that stands under one placement more.
+fn pass_on(entry: Result<UnscaledPoint, SourceFault>) -> Result<UnscaledPoint, SourceFault>
+    ensures { λ r. ⌜ r ≡ mapped (λ p. p) raised entry ⌝ }
 {
     match entry {
         Ok(point) => Ok(point),
-        Err(fault) => Err(SourceFault {
-            reason: fault.reason,
-            index: fault.index,
-            placements: fault.placements.saturating_add(1),
-        }),
+        Err(fault) => Err(fault.raise()),
     }
 }
 
@@ -79,7 +73,7 @@ pub impl<S: Source> Source for Placement<S> as PlacementSource {
     }
 
     fn entry(&self, index: usize) -> Result<UnscaledPoint, SourceFault> {
-        let point = raise(self.below.entry(index))?;
+        let point = pass_on(self.below.entry(index))?;
         move_point(point, self.dx, self.dy, index)
     }
 }

@@ -1,10 +1,11 @@
 // The points of a drawing record as a source.
 ghost use mathlib.Core.Path.{_≡_};
-ghost use Prim.Native.Nat.{_<_};
-ghost use lib.ListN.{length, getD, drop};
+ghost use mathlib.Core.List.{[], _∷_};
+ghost use Prim.Native.Nat.{_+_};
+ghost use lib.ListN.{getD};
 ghost use denote.Ref.{now};
 ghost use Rattle.std.specs.Options.{Cases};
-ghost use Rattle.unscaled.specs.Records.{entry-of, first-entry, entries};
+ghost use Rattle.unscaled.specs.Records.{body, entry-of, entries-from, entries};
 use crate::faults::FaultReason;
 use crate::faults::SourceFault;
 use crate::points::UnscaledPoint;
@@ -13,7 +14,7 @@ use outline::PointKind;
 
 const HEADER_BYTES: usize = 8;
 
-const POINT_BYTES: usize = 5;
+pub(crate) const POINT_BYTES: usize = 5;
 
 // The greatest kind: 1 for on the curve, and 2 for a contour start.
 const MOST_KIND: u8 = 3;
@@ -33,7 +34,7 @@ impl<'a> RecordPoints<'a> {
 
     // The points after a record's header; none where the record is shorter than that.
     pub fn of_record(record: &'a [u8]) -> RecordPoints<'a>
-        ensures { λ r. ⌜ now (r .bytes) ≡ drop 8 (now («record» .entry)) ⌝ }
+        ensures { λ r. ⌜ now (r .bytes) ≡ body (now («record» .entry)) ⌝ }
     {
         if record.len() < HEADER_BYTES {
             RecordPoints { bytes: &[] }
@@ -49,11 +50,7 @@ fn point_of(index: usize, x: [u8; 2], y: [u8; 2], kind: u8) -> Result<UnscaledPo
     ensures { λ r. ⌜ r ≡ entry-of index (getD x 0 0) (getD x 1 0) (getD y 0 0) (getD y 1 0) kind ⌝ }
 {
     if kind > MOST_KIND {
-        return Err(SourceFault {
-            reason: FaultReason::UnknownKind,
-            index,
-            placements: 0,
-        });
+        return Err(SourceFault::new(FaultReason::UnknownKind, index));
     }
     Ok(UnscaledPoint {
         x: i32::from(i16::from_be_bytes(x)),
@@ -67,9 +64,9 @@ fn point_of(index: usize, x: [u8; 2], y: [u8; 2], kind: u8) -> Result<UnscaledPo
     })
 }
 
-// The entry in the first five bytes, and the bytes after it.
+// The entry in the first five bytes, and the bytes of those after it.
 fn split_entry(index: usize, bytes: &[u8]) -> Option<(Result<UnscaledPoint, SourceFault>, &[u8])>
-    ensures { λ r. ⌜ Cases r (length (now (bytes .entry)) < 5) (λ p. (p .0 ≡ first-entry index (now (bytes .entry))) × (now (p .1) ≡ drop 5 (now (bytes .entry)))) ⌝ }
+    ensures { λ r. ⌜ Cases r (entries-from index (now (bytes .entry)) ≡ []) (λ p. entries-from index (now (bytes .entry)) ≡ p .0 ∷ entries-from (index + 1) (now (p .1))) ⌝ }
 {
     match bytes {
         [xh, xl, yh, yl, kind, rest @ ..] => Some((
@@ -90,11 +87,7 @@ pub impl Source for RecordPoints<'_> as RecordPointsSource {
     }
 
     fn entry(&self, index: usize) -> Result<UnscaledPoint, SourceFault> {
-        let past = SourceFault {
-            reason: FaultReason::PastCount,
-            index,
-            placements: 0,
-        };
+        let past = SourceFault::new(FaultReason::PastCount, index);
         if index >= self.bytes.len() / POINT_BYTES {
             return Err(past);
         }

@@ -3,7 +3,7 @@ ghost use mathlib.Core.Path.{_≡_};
 ghost use mathlib.Core.List.{List};
 ghost use Prim.Native.Nat.{ℕ};
 ghost use lib.ListN.{length, getD};
-ghost use Rattle.unscaled.specs.Entries.{Entry, past-count};
+ghost use Rattle.unscaled.specs.Entries.{Entry, past-count, Tells};
 use crate::faults::SourceFault;
 use crate::points::UnscaledPoint;
 
@@ -20,5 +20,6 @@ pub trait Source {
 
     // The entry at the index, or a fault from the count on.
     fn entry(&self, index: usize) -> Result<UnscaledPoint, SourceFault>
-        ensures { λ r. ⌜ r ≡ getD (list (now (self .entry))) index (past-count (placed (now (self .entry))) index) ⌝ };
+        ensures value { λ r. ⌜ r ≡ getD (list (now (self .entry))) index (past-count (placed (now (self .entry))) index) ⌝ }
+        ensures fault { λ r. ⌜ Tells (placed (now (self .entry))) index r ⌝ };
 }

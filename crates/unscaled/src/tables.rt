@@ -34,11 +34,7 @@ pub impl Source for PointTable<'_> as PointTableSource {
         if index < self.points.len() {
             Ok(self.points[index])
         } else {
-            Err(SourceFault {
-                reason: FaultReason::PastCount,
-                index,
-                placements: 0,
-            })
+            Err(SourceFault::new(FaultReason::PastCount, index))
         }
     }
 }

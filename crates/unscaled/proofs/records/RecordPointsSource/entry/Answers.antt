@@ -1,16 +1,25 @@
-use native.Mathlib.Omega.{arith}
+use borrow.Author.Needs.{needs}
 use mathlib.Core.Path.{sym, ap, _∙_}
 use Prim.Native.Nat.{_*_}
 use Rattle.std.proofs.shelf.Lists.{take-rest}
-use Rattle.unscaled.specs.Records.{first-entry}
-use Rattle.unscaled.proofs.Bytes.{getD-entries, getD-entries-past}
+use Rattle.unscaled.specs.Records.{entries-from}
+use Rattle.unscaled.proofs.Bytes.{entry-at, entry-past, first-tells}
 use Rattle.unscaled.proofs.records.RecordPointsSource.entry.Needs as need
 
 pub returns-then-index-self : need.returns-then-index-self
-returns-then-index-self c = sym (getD-entries-past (c .args .index) (c .args .self .now .bytes .now) _ (c .if-index-self .taken))
+returns-then-index-self c = record {
+  value = rw (c .new-past .ensures) (entry-past (c .args .index) (c .args .self .now .bytes .now) _ (c .if-index-self .taken));
+  fault = search needs;
+}
 
 pub returns-in-Some : need.returns-in-Some
 returns-in-Some c =
     let i = c .args .index in
     let bs = c .args .self .now .bytes .now in
-    (c .in-Some .ensures tt .0 ∙ ap (first-entry i) (take-rest bs (5 * i))) ∙ sym (getD-entries i bs _ (c .if-index-self .left))
+    record { value = entry-at i bs _ _ (ap (entries-from i) (sym (take-rest bs (5 * i))) ∙ c .in-Some .ensures tt); fault = first-tells i _ _ _ (c .in-Some .ensures tt) }
+
+pub returns-in-None : need.returns-in-None
+returns-in-None c =
+    let i = c .args .index in
+    let bs = c .args .self .now .bytes .now in
+    record { value = rw (c .new-past .ensures) (entry-at i bs _ _ (ap (entries-from i) (sym (take-rest bs (5 * i))) ∙ c .in-None .ensures tt)); fault = search needs }

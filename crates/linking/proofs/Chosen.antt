@@ -120,8 +120,8 @@ pub unlinked-unpaired : (ch : ℕ → Option ℕ) (i t : ℕ) → ch i ≡ Some 
 unlinked-unpaired ch i t c e =
     ⊎-elim
     (λ (p : paired ch i ≡ true).
-      let n : Some t ≡ None = sym c ∙ sym (cond-true (paired ch i) (ch i) None p) ∙ e in
-      let z : _≡_ {A = ℕ} 0 1 = cc in absurd (omega arith))
+    let n : Some t ≡ None = sym c ∙ sym (cond-true (paired ch i) (ch i) None p) ∙ e in
+    let z : _≡_ {A = ℕ} 0 1 = cc in absurd (omega arith))
     (λ (p : paired ch i ≡ false). p)
     (cases-bool (paired ch i))
 
@@ -134,7 +134,7 @@ serif-given ch i t c e w =
     serif-read ch i t c e ∙
     cond-true (paired ch t || ltb i t) (ch t) None
     (⊎-elim (λ (q : (u : ℕ) × (link-of ch t ≡ Some u)). or-left (paired ch t) (ltb i t) (linked-paired ch t (q .0) (q .1)))
-      (λ (q : i < t). or-right (paired ch t) (ltb i t) (lt-ltb i t q)) w)
+    (λ (q : i < t). or-right (paired ch t) (ltb i t) (lt-ltb i t q)) w)
 
 pub serif-withheld : (ch : ℕ → Option ℕ) (i t u : ℕ) → ch i ≡ Some t → link-of ch i ≡ None → ch t ≡ Some u → link-of ch t ≡ None → t ≤ i → serif-of ch i ≡ None
 serif-withheld ch i t u c e d f l =

@@ -15,7 +15,7 @@ use Rattle.segments.specs.declared.tables.Segment.{Segment}
 use Rattle.linking.specs.declared.rules.Rule.{Rule}
 use Rattle.linking.specs.Choices.{at, blank, holding, score, able, ranked, worth, choice, entry, Shows}
 use Rattle.linking.specs.Links.{among, link-of, serif-of, settled, held-choice, Unsettled, finished, linked-table}
-use Rattle.linking.specs.Laws.{PartnersAt, Chooses, ChoosesNone, Stems, Scores, Linked, Serifs, Drawn, Linking}
+use Rattle.linking.specs.Laws.{PartnersAt, Chooses, ChoosesNone, Stems, Scores, Linked, Serifs, SameUnlinked, Linking}
 use Rattle.linking.proofs.Steps.{shows-like, shows-through}
 use Rattle.linking.proofs.Settling.{cases-option}
 use Rattle.linking.proofs.Partnered.{best-chooses, chooses-best, partners-score, partners-back}
@@ -94,11 +94,11 @@ module _ (r : Rule) (some : 0 < r .threshold) (n : ℕ) (xs u : List Segment) (h
       let in-n : (i j : ℕ) → link-of c i ≡ Some j → j < n = λ i j e. among-some n f j i (link-from c i j e .1) .0 in
       record {
         chose = λ i j l e.
-          let two = link-from c i j (sym (link-is i l) ∙ e) in
-          (choice-chooses i j (among-some n f i j (two .0) .1), choice-chooses j i (among-some n f j i (two .1) .1));
+            let two = link-from c i j (sym (link-is i l) ∙ e) in
+            (choice-chooses i j (among-some n f i j (two .0) .1), choice-chooses j i (among-some n f j i (two .1) .1));
         linked = λ i j l a b. link-is i l ∙ link-to c i j (picked i j l a) (picked j i (a .inside) b);
         returned = λ i j l e. let e′ = sym (link-is i l) ∙ e in link-is j (in-n i j e′) ∙ link-back c i j e′;
-        alone = λ i j k l l′ e e′. link-alone c i j k (sym (link-is i l) ∙ e) (sym (link-is k l′) ∙ e′)
+        alone = λ i j k l l′ e e′. link-alone c i j k (sym (link-is i l) ∙ e) (sym (link-is k l′) ∙ e′);
       }
 
   no-less : (i k s : ℕ) (o : Option ℕ) → choice r (at xs) n i ≡ o → k < n → PartnersAt r (at xs i) (at xs k) s → worth (score r (at xs) i) o ≤ s
@@ -112,17 +112,18 @@ module _ (r : Rule) (some : 0 < r .threshold) (n : ℕ) (xs u : List Segment) (h
 
   scores : Scores r n xs u
   scores = record {
-      chosen = λ i j l c. score-is i l ∙ ap (worth (score r (at xs) i)) (chooses-choice i j c) ∙ partners-score r some (at xs) i j (c .scored) (c .partner);
-      unchosen = λ i l z. score-is i l ∙ ap (worth (score r (at xs) i)) (none-choice i z);
-      lowest = λ i k s l m p. omega (arith, score-is i l, no-less i k s (choice r (at xs) n i) refl m p) }
+    chosen = λ i j l c. score-is i l ∙ ap (worth (score r (at xs) i)) (chooses-choice i j c) ∙ partners-score r some (at xs) i j (c .scored) (c .partner);
+    unchosen = λ i l z. score-is i l ∙ ap (worth (score r (at xs) i)) (none-choice i z);
+    lowest = λ i k s l m p. omega (arith, score-is i l, no-less i k s (choice r (at xs) n i) refl m p);
+  }
 
   -- whoever is chosen chooses
   chooses-on : (i t : ℕ) → i < n → Chooses r n xs i t → (v : ℕ) × Chooses r n xs t v
   chooses-on i t l c =
       ⊎-elim
       (λ (e : choice r (at xs) n t ≡ None).
-        let back = partners-back r (at xs i) (at xs t) (c .scored) (c .partner) in
-        absurd (omega (arith, no-less t i (c .scored) None e l back, c .below)))
+      let back = partners-back r (at xs i) (at xs t) (c .scored) (c .partner) in
+      absurd (omega (arith, no-less t i (c .scored) None e l back, c .below)))
       (λ (e : (v : ℕ) × (choice r (at xs) n t ≡ Some v)). (e .0, choice-chooses t (e .0) (e .1)))
       (cases-option (choice r (at xs) n t))
 
@@ -131,19 +132,19 @@ module _ (r : Rule) (some : 0 < r .threshold) (n : ℕ) (xs u : List Segment) (h
       let c = among n (choice r (at xs) n) in
       record {
         given = λ i t l e a w.
-          let v = chooses-on i t l a in
-          let q : ((m : ℕ) × (link-of c t ≡ Some m)) ⊎ (i < t) =
+            let v = chooses-on i t l a in
+            let q : ((m : ℕ) × (link-of c t ≡ Some m)) ⊎ (i < t) =
             ⊎-elim (λ (x : Linked u t). inl (x .0, sym (link-is t (a .inside)) ∙ x .1)) (λ (x : i < t). inr x) w in
-          (v .0, (v .1, serif-is i l ∙ serif-given c i t (picked i t l a) (sym (link-is i l) ∙ e) q ∙ picked t (v .0) (a .inside) (v .1)));
+            (v .0, (v .1, serif-is i l ∙ serif-given c i t (picked i t l a) (sym (link-is i l) ∙ e) q ∙ picked t (v .0) (a .inside) (v .1)));
         withheld = λ i t l e a f m.
-          let v = chooses-on i t l a in
-          serif-is i l ∙ serif-withheld c i t (v .0) (picked i t l a) (sym (link-is i l) ∙ e) (picked t (v .0) (a .inside) (v .1)) (sym (link-is t (a .inside)) ∙ f) m;
+            let v = chooses-on i t l a in
+            serif-is i l ∙ serif-withheld c i t (v .0) (picked i t l a) (sym (link-is i l) ∙ e) (picked t (v .0) (a .inside) (v .1)) (sym (link-is t (a .inside)) ∙ f) m;
         linked = λ i l x. serif-is i l ∙ serif-linked c i (x .0) (sym (link-is i l) ∙ x .1);
-        unchosen = λ i l z. serif-is i l ∙ serif-unchosen c i (cond-true (ltb i n) (choice r (at xs) n i) None (lt-ltb i n l) ∙ none-choice i z)
+        unchosen = λ i l z. serif-is i l ∙ serif-unchosen c i (cond-true (ltb i n) (choice r (at xs) n i) None (lt-ltb i n l) ∙ none-choice i z);
       }
 
-  drawn : (k : ℕ) → k < n → Drawn (at xs k) (at u k)
-  drawn k l = subst (Drawn (at xs k)) (sym (h .front k l)) (record { dir = refl; position = refl; delta = refl; least = refl; greatest = refl; height = refl; round = refl; first = refl; last = refl })
+  drawn : (k : ℕ) → k < n → SameUnlinked (at xs k) (at u k)
+  drawn k l = subst (SameUnlinked (at xs k)) (sym (h .front k l)) (record { dir = refl; position = refl; delta = refl; least = refl; greatest = refl; height = refl; round = refl; first = refl; last = refl })
 
   pub linking : Linking r n xs u
   linking = record { stems = stems; scores = scores; serifs = serifs; keeps = record { len = h .len; front = drawn; rest = h .rest } }

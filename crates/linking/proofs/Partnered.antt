@@ -7,7 +7,8 @@ use Prim.Native.Nat.{ℕ, zero, suc, _+_, _<_, _≤_}
 use native.Mathlib.Omega.{arith}
 use lib.Dec.{ltb, leb, eqb}
 use lib.IntN.{ℤ, pos, negsuc, _-ℤ_}
-use lib.Signed.{_<ℤ_, _≤ℤ_}
+use lib.Signed.{ltZ, _<ℤ_, _≤ℤ_}
+use borrow.Author.Differences.{lt-true}
 use Rattle.std.specs.Numbers.{minZ, maxZ}
 use Rattle.std.proofs.shelf.Signed.{ints}
 use Rattle.std.proofs.shelf.Tests.{ltb-true, ltb-false, le-ltb, leb-true, lt-ltb, le-leb, eqb-true, eq-eqb, ne-eqb, cases-lt, cases-bool, both-ways, cond-true, cond-false, and-parts, and-from}
@@ -18,7 +19,7 @@ use Rattle.outline.specs.declared.directions.Direction.the-variants as dir
 use Rattle.outline.specs.declared.directions.Direction.the-variants.{Right, Left, Up, Down}
 use Rattle.segments.specs.declared.tables.Segment.{Segment}
 use Rattle.linking.specs.declared.rules.Rule.{Rule}
-use Rattle.linking.specs.Rules.{clip, away, overlap, meets, cost, price}
+use Rattle.linking.specs.Rules.{clip, overlap, faces, meets, cost, price}
 use Rattle.outline.specs.Directions.{code, back, same, opposite, Opposite}
 use Rattle.linking.specs.Choices.{at, score, able, ranked}
 use Rattle.linking.specs.Laws.{Partners, PartnersAt, Chooses, FirstBest}
@@ -70,33 +71,33 @@ up-clip : (z : ℤ) (m : ℕ) → pos m ≤ℤ z → m ≤ clip z
 up-clip (pos n) m l = omega (arith, ints)
 up-clip (negsuc n) m l = omega (arith, ints)
 
-beyond-from : (x y : ℤ) → 0 < away y x → x <ℤ y
-beyond-from x y h = let q = clip-up (y -ℤ x) 1 (omega arith) (omega arith) in omega (arith, ints)
+beyond-from : (x y : ℤ) → ltZ x y ≡ true → x <ℤ y
+beyond-from x y h = omega (arith, ints, lt-true x y h)
 
-from-beyond : (x y : ℤ) → x <ℤ y → 0 < away y x
-from-beyond x y h = let q : pos 1 ≤ℤ (y -ℤ x) = omega (arith, ints) in omega (arith, up-clip (y -ℤ x) 1 q)
+from-beyond : (x y : ℤ) → x <ℤ y → ltZ x y ≡ true
+from-beyond x y h = grind (arith, ints)
 
 -- ---- partners
 
 module _ (r : Rule) (some : 0 < r .threshold) (a b : Segment) where
   pub meets-partners : meets r a b ≡ true → Partners r a b
   meets-partners e =
-      let p = and-parts (same (a .dir) (r .major) && opposite (r .major) (b .dir) && ltb 0 (away (b .pos .0) (a .pos .0))) (leb (r .threshold) (overlap a b)) e in
-      let q = and-parts (same (a .dir) (r .major) && opposite (r .major) (b .dir)) (ltb 0 (away (b .pos .0) (a .pos .0))) (p .0) in
+      let p = and-parts (faces r a b) (leb (r .threshold) (overlap a b)) e in
+      let q = and-parts (same (a .dir) (r .major) && opposite (r .major) (b .dir)) (ltZ (a .pos .0) (b .pos .0)) (p .0) in
       let s = and-parts (same (a .dir) (r .major)) (opposite (r .major) (b .dir)) (q .0) in
       record {
         of-major = same-true (a .dir) (r .major) (s .0);
         of-opposite = opposite-means (r .major) (b .dir) (s .1);
-        beyond = beyond-from (a .pos .0) (b .pos .0) (ltb-true 0 (away (b .pos .0) (a .pos .0)) (q .1));
+        beyond = beyond-from (a .pos .0) (b .pos .0) (q .1);
         overlapping = clip-up (minZ (a .«max_coord» .0) (b .«max_coord» .0) -ℤ maxZ (a .«min_coord» .0) (b .«min_coord» .0)) (r .threshold) some (leb-true (r .threshold) (overlap a b) (p .1));
       }
 
   pub partners-meets : Partners r a b → meets r a b ≡ true
   partners-meets h =
-      and-from (same (a .dir) (r .major) && opposite (r .major) (b .dir) && ltb 0 (away (b .pos .0) (a .pos .0))) (leb (r .threshold) (overlap a b))
-      (and-from (same (a .dir) (r .major) && opposite (r .major) (b .dir)) (ltb 0 (away (b .pos .0) (a .pos .0)))
+      and-from (faces r a b) (leb (r .threshold) (overlap a b))
+      (and-from (same (a .dir) (r .major) && opposite (r .major) (b .dir)) (ltZ (a .pos .0) (b .pos .0))
       (and-from (same (a .dir) (r .major)) (opposite (r .major) (b .dir)) (eq-eqb (code (a .dir)) (code (r .major)) (ap code (h .of-major))) (opposite-told (r .major) (b .dir) (h .of-opposite)))
-      (lt-ltb 0 (away (b .pos .0) (a .pos .0)) (from-beyond (a .pos .0) (b .pos .0) (h .beyond))))
+      (from-beyond (a .pos .0) (b .pos .0) (h .beyond)))
       (le-leb (r .threshold) (overlap a b) (up-clip (minZ (a .«max_coord» .0) (b .«max_coord» .0) -ℤ maxZ (a .«min_coord» .0) (b .«min_coord» .0)) (r .threshold) (h .overlapping)))
 
   price-cost : Partners r a b → price r a b ≡ cost r a b

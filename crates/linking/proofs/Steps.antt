@@ -8,7 +8,7 @@ use native.Mathlib.Omega.{arith}
 use native.Mathlib.Numerals.{add-one}
 use lib.Dec.{ltb, leb, eqb}
 use lib.ListN.{length, getD, set}
-use lib.IntN.{ℤ, pos, negsuc, _-ℤ_}
+use lib.Signed.{ltZ}
 use Rattle.std.proofs.shelf.Signed.{ints}
 use Rattle.std.proofs.shelf.Lists.{length-set, getD-set-same, getD-set-other}
 use Rattle.std.proofs.shelf.Tests.{lt-ltb, le-ltb, ltb-true, ltb-false, eqb-true, eqb-false, eq-eqb, ne-eqb, cases-eq, cases-lt, cases-bool, both-ways, cond-true, cond-false, and-right, and-left, and-from}
@@ -20,9 +20,9 @@ use Rattle.outline.specs.declared.directions.Direction.the-variants as dir
 use Rattle.outline.specs.declared.directions.Direction.the-variants.{Right, Left, Up, Down}
 use Rattle.segments.specs.declared.tables.Segment.{Segment}
 use Rattle.linking.specs.declared.rules.Rule.{Rule}
-use Rattle.linking.specs.Rules.{overlap, clip, away, meets, cost, price}
+use Rattle.linking.specs.Rules.{overlap, meets, cost, pair-score, price}
 use Rattle.outline.specs.Directions.{code, back, same, opposite}
-use Rattle.linking.specs.Choices.{at, blank, holding, score, worth, ranks-before, ahead, able, ranked, chosen, choice, entry, passed, stage, Shows, offered}
+use Rattle.linking.specs.Choices.{at, blank, holding, score, worth, ranks-before, ahead, able, ranked, chosen, choice, entry, passed, stage, Shows, offered, exchanged}
 
 -- ---- stores
 
@@ -110,7 +110,7 @@ idle r g p k q c e = sym (offered-keeps (entry r g p k) q c (le-ltb c (entry r g
 -- ---- pairs that are no partners
 
 pub price-minor : (r : Rule) (a b : Segment) → same (a .dir) (r .major) ≡ false → price r a b ≡ 32000
-price-minor r a b e = cond-false (meets r a b) (cost r a b) 32000 (subst (λ x. (x && opposite (r .major) (b .dir) && ltb 0 (away (b .pos .0) (a .pos .0)) && leb (r .threshold) (overlap a b)) ≡ false) (sym e) refl)
+price-minor r a b e = cond-false (meets r a b) (cost r a b) 32000 (subst (λ x. (x && opposite (r .major) (b .dir) && ltZ (a .pos .0) (b .pos .0) && leb (r .threshold) (overlap a b)) ≡ false) (sym e) refl)
 
 -- a segment of the major direction is nobody's second
 pub same-not-opposed : (m b : Direction) → same b m ≡ true → opposite m b ≡ false
@@ -125,12 +125,9 @@ price-second r a b e =
     let f : opposite (r .major) (b .dir) ≡ false = same-not-opposed (r .major) (b .dir) e in
     cond-false (meets r a b) (cost r a b) 32000 (grind (arith, tells))
 
-away-self : (z : ℤ) → away z z ≡ 0
-away-self z = let e : z -ℤ z ≡ pos 0 = omega (arith, ints) in ap clip e
-
 pub price-self : (r : Rule) (a : Segment) → price r a a ≡ 32000
 price-self r a =
-    let f : ltb 0 (away (a .pos .0) (a .pos .0)) ≡ false = le-ltb 0 (away (a .pos .0) (a .pos .0)) (omega (arith, away-self (a .pos .0))) in
+    let f : ltZ (a .pos .0) (a .pos .0) ≡ false = grind (arith, ints) in
     cond-false (meets r a a) (cost r a a) 32000 (grind (arith, tells))
 
 -- ---- how many each entry has passed
@@ -210,7 +207,11 @@ put-same F i v = cond-true (eqb i i) v (F i) (eq-eqb i i refl)
 put-other : (F : ℕ → Segment) (i k : ℕ) (v : Segment) → (k ≡ i → ⊥) → put F i v k ≡ F k
 put-other F i k v d = cond-false (eqb k i) v (F k) (ne-eqb k i d)
 
-pub step : (r : Rule) (g : ℕ → Segment) (n i j k : ℕ) → met (stage r g n i j) i j (price r (g i) (g j)) k ≡ stage r g n i (j + 1) k
+put-idle : (F : ℕ → Segment) (i k : ℕ) (v : Segment) → v ≡ F i → put F i v k ≡ F k
+put-idle F i k v e =
+    ⊎-elim (λ (q : k ≡ i). subst (λ m. put F i v m ≡ F m) (sym q) (put-same F i v ∙ e)) (λ (q : k ≡ i → ⊥). put-other F i k v q) (cases-eq k i)
+
+step : (r : Rule) (g : ℕ → Segment) (n i j k : ℕ) → met (stage r g n i j) i j (price r (g i) (g j)) k ≡ stage r g n i (j + 1) k
 step r g n i j k =
     let F = stage r g n i j in
     let p = price r (g i) (g j) in
@@ -239,12 +240,40 @@ step r g n i j k =
     (cases-eq k j))
     (cases-eq i j)
 
-pub shows-met : (xs : List Segment) (n : ℕ) (F : ℕ → Segment) (t t₁ t₂ : List Segment) (i j p : ℕ) → i < n → j < n → n ≤ length xs → Shows xs n F t → t₁ ≡ set t i (offered (at t i) j p) → t₂ ≡ set t₁ j (offered (at t₁ j) i p) → Shows xs n (met F i j p) t₂
+shows-met : (xs : List Segment) (n : ℕ) (F : ℕ → Segment) (t t₁ t₂ : List Segment) (i j p : ℕ) → i < n → j < n → n ≤ length xs → Shows xs n F t → t₁ ≡ set t i (offered (at t i) j p) → t₂ ≡ set t₁ j (offered (at t₁ j) i p) → Shows xs n (met F i j p) t₂
 shows-met xs n F t t₁ t₂ i j p il jl nl h e₁ e₂ =
     let v = offered (F i) j p in
     let s₁ : Shows xs n (put F i v) t₁ = subst (λ u. Shows xs n (put F i v) u) (sym (e₁ ∙ ap (λ x. set t i (offered x j p)) (h .front i il))) (shows-set xs n F t i v il nl h) in
     let w = offered (put F i v j) i p in
     subst (λ u. Shows xs n (met F i j p) u) (sym (e₂ ∙ ap (λ x. set t₁ j (offered x i p)) (s₁ .front j jl))) (shows-set xs n (put F i v) t₁ j w jl nl s₁)
+
+-- a pair that are no partners changes nothing
+met-idle : (r : Rule) (g : ℕ → Segment) (n i j k : ℕ) → met (stage r g n i j) i j 32000 k ≡ stage r g n i j k
+met-idle r g n i j k =
+    let F = stage r g n i j in
+    let v = offered (F i) j 32000 in
+    let same-i : (m : ℕ) → put F i v m ≡ F m = λ m. put-idle F i m v (idle r g (passed (same (g i .dir) (r .major)) n i j i) i j 32000 refl) in
+    put-idle (put F i v) j k (offered (put F i v j) i 32000) (ap (λ x. offered x i 32000) (same-i j) ∙ idle r g (passed (same (g j .dir) (r .major)) n i j j) j i 32000 refl ∙ sym (same-i j)) ∙ same-i k
+
+-- one step of a pass, over the table
+pub shows-step : (r : Rule) (xs t t′ : List Segment) (n i j : ℕ) → i < n → j < n → n ≤ length xs → Shows xs n (stage r (at xs) n i j) t → t′ ≡ exchanged t i j (pair-score r (at xs i) (at xs j)) → Shows xs n (stage r (at xs) n i (j + 1)) t′
+shows-step r xs t t′ n i j il jl nl h e =
+    let F = stage r (at xs) n i j in
+    let a = at xs i in
+    let b = at xs j in
+    ⊎-elim
+    (λ (m : meets r a b ≡ true).
+    let p = cost r a b in
+    let e′ : t′ ≡ exchanged t i j (Some p) = e ∙ ap (exchanged t i j) (cond-true (meets r a b) (Some p) None m) in
+    shows-like xs n (met F i j p) (stage r (at xs) n i (j + 1)) t′
+    (λ k l. ap (λ c. met F i j c k) (sym (cond-true (meets r a b) p 32000 m)) ∙ step r (at xs) n i j k)
+    (shows-met xs n F t (set t i (offered (at t i) j p)) t′ i j p il jl nl h refl e′))
+    (λ (m : meets r a b ≡ false).
+    let e′ : t′ ≡ t = e ∙ ap (exchanged t i j) (cond-false (meets r a b) (Some (cost r a b)) None m) in
+    subst (Shows xs n (stage r (at xs) n i (j + 1))) (sym e′)
+    (shows-like xs n F (stage r (at xs) n i (j + 1)) t
+    (λ k l. sym (met-idle r (at xs) n i j k) ∙ ap (λ c. met F i j c k) (sym (cond-false (meets r a b) (cost r a b) 32000 m)) ∙ step r (at xs) n i j k) h))
+    (cases-bool (meets r a b))
 
 -- ---- the rule looks at neither score, link nor serif
 

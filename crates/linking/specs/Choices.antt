@@ -4,7 +4,7 @@ use mathlib.Core.Bool.{Bool, false, cond}
 use mathlib.Core.List.{List}
 use Prim.Native.Nat.{ℕ, zero, suc, _+_, _<_, _≤_}
 use lib.Dec.{ltb, eqb}
-use lib.ListN.{length, getD}
+use lib.ListN.{length, getD, set}
 use lib.IntN.{pos}
 use Rattle.std.specs.declared.option.Option.{Option}
 use Rattle.std.specs.declared.option.Option.the-variants.{Some, None}
@@ -82,3 +82,10 @@ pub record Shows (xs : List Segment) (n : ℕ) (F : ℕ → Segment) (t : List S
 -- a segment that is offered a partner stores the one that ranks before the other
 abbrev pub offered : Segment → ℕ → ℕ → Segment
 offered g to s = holding g (cond (ranks-before s (g .score)) s (g .score)) (cond (ranks-before s (g .score)) (Some to) (g .link)) (g .serif)
+
+-- two segments that meet: partners are offered each other
+abbrev pub exchanged : List Segment → ℕ → ℕ → Option ℕ → List Segment
+exchanged xs i j None = xs
+exchanged xs i j (Some s) =
+    let ys = set xs i (offered (at xs i) j s) in
+    set ys j (offered (at ys j) i s)

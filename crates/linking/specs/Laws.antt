@@ -73,7 +73,7 @@ pub record Serifs (r : Rule) (n : ℕ) (xs ys : List Segment) : Type 0 where
   pub unchosen : (i : ℕ) → i < n → ChoosesNone r n xs i → at ys i .serif ≡ None
 
 -- b is a but for its score, link and serif
-pub record Drawn (a b : Segment) : Type 0 where
+pub record SameUnlinked (a b : Segment) : Type 0 where
   pub dir : b .dir ≡ a .dir
   pub position : b .pos ≡ a .pos
   pub delta : b .delta ≡ a .delta
@@ -87,7 +87,7 @@ pub record Drawn (a b : Segment) : Type 0 where
 -- all else stays
 pub record Keeps (n : ℕ) (xs ys : List Segment) : Type 0 where
   pub len : length ys ≡ length xs
-  pub front : (k : ℕ) → k < n → Drawn (at xs k) (at ys k)
+  pub front : (k : ℕ) → k < n → SameUnlinked (at xs k) (at ys k)
   pub rest : (k : ℕ) → n ≤ k → at ys k ≡ at xs k
 
 -- the laws together

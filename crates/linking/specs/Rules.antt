@@ -4,7 +4,10 @@ use mathlib.Core.Bool.{Bool, cond, _&&_}
 use Prim.Native.Nat.{ℕ, _+_, _-_, _*_, _/_, max}
 use lib.Dec.{ltb, leb, eqb}
 use lib.IntN.{ℤ, pos, negsuc, _-ℤ_}
+use lib.Signed.{ltZ}
 use Rattle.std.specs.Numbers.{minZ, maxZ}
+use Rattle.std.specs.declared.option.Option.{Option}
+use Rattle.std.specs.declared.option.Option.the-variants.{Some, None}
 use Rattle.outline.specs.declared.directions.Direction.{Direction}
 use Rattle.outline.specs.declared.units.Settings.{Settings}
 use Rattle.outline.specs.Directions.{same, opposite}
@@ -47,14 +50,22 @@ excess w d = 1024 * d / w - 1024
 abbrev pub demerit : ℕ → ℕ → ℕ
 demerit w d = cond (eqb w 0) d (cond (ltb 10000 (excess w d)) 32000 (excess w d * excess w d / 3000))
 
--- a of the major direction, b of the opposite one, b's position greater, the overlap long enough
+-- a of the major direction, b of the opposite one, b's position greater
+abbrev pub faces : Rule → Segment → Segment → Bool
+faces r a b = same (a .dir) (r .major) && opposite (r .major) (b .dir) && ltZ (a .pos .0) (b .pos .0)
+
+-- the test of partners: so, and the overlap long enough
 abbrev pub meets : Rule → Segment → Segment → Bool
-meets r a b = same (a .dir) (r .major) && opposite (r .major) (b .dir) && ltb 0 (away (b .pos .0) (a .pos .0)) && leb (r .threshold) (overlap a b)
+meets r a b = faces r a b && leb (r .threshold) (overlap a b)
 
 -- the score of partners: what the distance costs, and Q / L
 abbrev pub cost : Rule → Segment → Segment → ℕ
 cost r a b = demerit (r .width) (away (b .pos .0) (a .pos .0)) + r .weight / overlap a b
 
--- the score of a pair, or 32,000 where they are no partners
+-- the score of a pair, if they are partners
+abbrev pub pair-score : Rule → Segment → Segment → Option ℕ
+pair-score r a b = cond (meets r a b) (Some (cost r a b)) None
+
+-- the same as a number: 32,000 where they are no partners
 abbrev pub price : Rule → Segment → Segment → ℕ
 price r a b = cond (meets r a b) (cost r a b) 32000

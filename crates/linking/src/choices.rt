@@ -7,7 +7,7 @@ ghost use mathlib.Core.Path.{_≡_};
 ghost use Prim.Native.Nat.{_+_, _<_, _≤_};
 ghost use lib.ListN.{length, set};
 ghost use Rattle.std.specs.declared.option.Option.the-variants.{Some, None};
-ghost use Rattle.linking.specs.Choices.{at as entry-at, ranks-before, holding as spec-holding, offered, entry as choice-entry, stage, Shows};
+ghost use Rattle.linking.specs.Choices.{at as entry-at, ranks-before, holding as spec-holding, offered, exchanged, entry as choice-entry, stage, Shows};
 
 // The segment with another score, link and serif.
 pub fn holding(segment: Segment, score: u32, link: Option<u16>, serif: Option<u16>) -> Segment
@@ -39,6 +39,17 @@ fn offer(table: &mut [Segment], at: usize, to: u16, score: u32)
     }
 }
 
+// The segments i and j meet: partners are offered each other.
+fn meet(table: &mut [Segment], i: usize, j: usize, score: Option<u32>)
+    requires { ⌜ (i < length (now table)) × (j < length (now table)) × (i < 1001) × (j < 1001) ⌝ }
+    ensures { λ _. ⌜ now (table .exit) ≡ exchanged (now (table .entry)) i j score ⌝ }
+{
+    if let Some(score) = score {
+        offer(table, i, j as u16, score);
+        offer(table, j, i as u16, score);
+    }
+}
+
 // Old scores, links and serifs go.
 fn erase(table: &mut [Segment], n: usize)
     requires { ⌜ n ≤ length (now table) ⌝ }
@@ -49,7 +60,7 @@ fn erase(table: &mut [Segment], n: usize)
     }
 }
 
-// Segment i meets each segment, and both are offered the pair's score.
+// Segment i, if it is of the major direction, meets each segment.
 fn pass(table: &mut [Segment], n: usize, i: usize, rule: &Rule)
     requires { ⌜ Shows (now table) n (stage (now rule) (entry-at (now table)) n i 0) (now table) ⌝ }
     requires { ⌜ (i < n) × (n ≤ length (now table)) × (n ≤ 1001) × (0 < now rule .threshold) ⌝ }
@@ -60,10 +71,8 @@ fn pass(table: &mut [Segment], n: usize, i: usize, rule: &Rule)
         return;
     }
     for j in 0..n {
-        let second = table[j];
-        let score = rule.price(&first, &second);
-        offer(table, i, j as u16, score);
-        offer(table, j, i as u16, score);
+        let score = rule.score(&first, &table[j]);
+        meet(table, i, j, score);
     }
 }
 

@@ -1,7 +1,6 @@
 // Linking the first entries of any table.
-use crate::choices::choose;
 use crate::rules::Rule;
-use crate::stems::settle;
+use crate::stems::link_by_rule;
 use outline::Direction;
 use outline::Settings;
 use outline::SettingsFault;
@@ -56,8 +55,7 @@ pub fn link_segments(table: &mut [Segment], n: usize, settings: &Settings, major
     ensures linking { λ _. ⌜ Linking (rule-by (now (settings .entry)) major) n (now (table .entry)) (now (table .exit)) ⌝ }
 {
     let rule = Rule::new(settings, major);
-    choose(table, n, &rule);
-    settle(table, n);
+    link_by_rule(table, n, &rule);
 }
 
 // Scores and links the first n entries; a refusal leaves the table as it was.

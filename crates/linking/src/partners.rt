@@ -8,9 +8,10 @@ use segments::Position;
 use segments::Segment;
 ghost use mathlib.Core.Path.{_≡_};
 ghost use Prim.Native.Nat.{_<_, _≤_};
+ghost use lib.Signed.{ltZ};
 ghost use Rattle.std.specs.Numbers.{minZ, maxZ};
 ghost use Rattle.outline.specs.Directions.{same};
-ghost use Rattle.linking.specs.Rules.{away, overlap as spec-overlap, demerit as spec-demerit, price as spec-price};
+ghost use Rattle.linking.specs.Rules.{away, overlap as spec-overlap, demerit as spec-demerit, faces as spec-faces, pair-score};
 
 // A distance equal to the standard stem width, in the steps that demerits are counted by.
 const ONE_WIDTH: u32 = 1024;
@@ -25,16 +26,29 @@ pub fn has_direction(segment: &Segment, dir: Direction) -> bool
     segment.dir == dir
 }
 
+fn is_beyond(a: Position, b: Position) -> bool
+    ensures { λ r. ⌜ r ≡ ltZ (a .0) (b .0) ⌝ }
+{
+    b.0 > a.0
+}
+
 // How far `to` is beyond `from`, or 0.
-fn distance(from: Position, to: Position) -> u32
-    ensures value { λ r. ⌜ r ≡ away (to .0) (from .0) ⌝ }
+fn gap(from: i16, to: i16) -> u32
+    ensures value { λ r. ⌜ r ≡ away to from ⌝ }
     ensures bound { λ r. ⌜ r ≤ 65535 ⌝ }
 {
-    if to.0 > from.0 {
-        (to.0 as i32 - from.0 as i32) as u32
+    if to > from {
+        (to as i32 - from as i32) as u32
     } else {
         0
     }
+}
+
+fn distance(a: Position, b: Position) -> u32
+    ensures value { λ r. ⌜ r ≡ away (b .0) (a .0) ⌝ }
+    ensures bound { λ r. ⌜ r ≤ 65535 ⌝ }
+{
+    gap(a.0, b.0)
 }
 
 fn lower(a: Coordinate, b: Coordinate) -> Coordinate
@@ -49,24 +63,12 @@ fn upper(a: Coordinate, b: Coordinate) -> Coordinate
     Coordinate(a.0.max(b.0))
 }
 
-// How far `to` is beyond `from`, or 0.
-fn length(from: Coordinate, to: Coordinate) -> u32
-    ensures { λ r. ⌜ r ≡ away (to .0) (from .0) ⌝ }
-{
-    if to.0 > from.0 {
-        (to.0 as i32 - from.0 as i32) as u32
-    } else {
-        0
-    }
-}
-
 fn overlap(a: &Segment, b: &Segment) -> u32
     ensures { λ r. ⌜ r ≡ spec-overlap (now (a .entry)) (now (b .entry)) ⌝ }
 {
-    length(
-        upper(a.min_coord, b.min_coord),
-        lower(a.max_coord, b.max_coord),
-    )
+    let least = upper(a.min_coord, b.min_coord);
+    let greatest = lower(a.max_coord, b.max_coord);
+    gap(least.0, greatest.0)
 }
 
 // What a distance costs: nothing up to the standard width, and then the square of what is beyond it.
@@ -91,19 +93,25 @@ fn demerit(width: u16, distance: u32) -> u32
 }
 
 impl Rule {
-    // The score of a and b, or MAX_SCORE where they are no partners.
-    pub fn price(&self, a: &Segment, b: &Segment) -> u32
-        requires { ⌜ 0 < now self .threshold ⌝ }
-        ensures { λ r. ⌜ r ≡ spec-price (now (self .entry)) (now (a .entry)) (now (b .entry)) ⌝ }
+    // Whether a is of the major direction, and b of the opposite one at a greater position.
+    fn faces(&self, a: &Segment, b: &Segment) -> bool
+        ensures { λ r. ⌜ r ≡ spec-faces (now (self .entry)) (now (a .entry)) (now (b .entry)) ⌝ }
     {
-        if !has_direction(a, self.major) || !self.major.is_opposite(b.dir) {
-            return MAX_SCORE;
+        has_direction(a, self.major) && self.major.is_opposite(b.dir) && is_beyond(a.pos, b.pos)
+    }
+
+    // The score of a with b, if they are partners.
+    pub fn score(&self, a: &Segment, b: &Segment) -> Option<u32>
+        requires { ⌜ 0 < now self .threshold ⌝ }
+        ensures { λ r. ⌜ r ≡ pair-score (now (self .entry)) (now (a .entry)) (now (b .entry)) ⌝ }
+    {
+        if !self.faces(a, b) {
+            return None;
         }
-        let distance = distance(a.pos, b.pos);
         let overlap = overlap(a, b);
-        if distance == 0 || overlap < self.threshold as u32 {
-            return MAX_SCORE;
+        if overlap < self.threshold as u32 {
+            return None;
         }
-        demerit(self.width, distance) + self.weight as u32 / overlap
+        Some(demerit(self.width, distance(a.pos, b.pos)) + self.weight as u32 / overlap)
     }
 }

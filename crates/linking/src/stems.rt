@@ -1,12 +1,15 @@
 // Links and serifs, from what each segment chose.
+use crate::choices::choose;
 use crate::choices::holding;
+use crate::rules::Rule;
 use segments::Segment;
 ghost use mathlib.Core.Path.{_≡_};
 ghost use Prim.Native.Nat.{ℕ, _<_, _≤_};
 ghost use lib.ListN.{length, set};
 ghost use Rattle.std.specs.declared.option.Option.the-variants.{Some, None};
 ghost use Rattle.linking.specs.Choices.{at as entry-at, Shows};
-ghost use Rattle.linking.specs.Links.{picks as spec-picks, released, settled, held-choice, Unsettled};
+ghost use Rattle.linking.specs.Links.{picks as spec-picks, linked-table, released, settled, held-choice, Unsettled};
+ghost use Rattle.linking.specs.Laws.{Linking};
 
 fn picks(link: Option<u16>, k: u16) -> bool
     ensures { λ r. ⌜ r ≡ spec-picks link k ⌝ }
@@ -34,7 +37,7 @@ fn release(table: &mut [Segment], n: usize, i: usize)
 }
 
 // Links that are not returned go, in index order, so that a later entry reads what an earlier one was left.
-pub fn settle(table: &mut [Segment], n: usize)
+fn settle(table: &mut [Segment], n: usize)
     requires { ⌜ Unsettled n (now table) ⌝ }
     requires { ⌜ (n ≤ length (now table)) × (n ≤ 1001) ⌝ }
     ensures { λ _. ⌜ Shows (now (table .entry)) n (settled (held-choice n (now (table .entry))) (entry-at (now (table .entry)))) (now (table .exit)) ⌝ }
@@ -42,4 +45,14 @@ pub fn settle(table: &mut [Segment], n: usize)
     for i in 0..n {
         release(table, n, i);
     }
+}
+
+// The whole linking of the first n entries.
+pub fn link_by_rule(table: &mut [Segment], n: usize, rule: &Rule)
+    requires { ⌜ (n ≤ length (now table)) × (n ≤ 1001) × (0 < now rule .threshold) ⌝ }
+    ensures table { λ _. ⌜ now (table .exit) ≡ linked-table (now (rule .entry)) n (now (table .entry)) ⌝ }
+    ensures linking { λ _. ⌜ Linking (now (rule .entry)) n (now (table .entry)) (now (table .exit)) ⌝ }
+{
+    choose(table, n, rule);
+    settle(table, n);
 }

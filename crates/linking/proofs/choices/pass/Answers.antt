@@ -2,24 +2,21 @@ use mathlib.Core.Path.{_≡_, refl, sym, ap, subst, _∙_}
 use Prim.Native.Nat.{ℕ, _+_, _<_, _≤_}
 use native.Mathlib.Omega.{arith}
 use lib.ListN.{length}
-use Rattle.linking.specs.Rules.{price}
-use Rattle.linking.specs.Choices.{Shows, stage, at}
-use Rattle.linking.proofs.Steps.{shows-like, shows-met, step, skip, met, stage-row}
+use Rattle.linking.specs.Rules.{pair-score}
+use Rattle.linking.specs.Choices.{Shows, stage, at, exchanged}
+use Rattle.linking.proofs.Steps.{shows-like, shows-step, skip, stage-row}
 use Rattle.linking.proofs.choices.pass.Needs as need
 
--- both offers, at the score by the rule, lead to the next stage
+-- the two that meet are as at the start but for their scores and links
 pub loop-j-again : need.loop-j-again
 loop-j-again c =
     let xs = c .args .table .now in
     let r = c .args .rule .now in
-    let n = c .args .n in
+    let t = c .loop-j .table in
     let i = c .args .i in
     let j = c .loop-j .j in
-    let p = c .price-score .result in
-    let e : p ≡ price r (at xs i) (at xs j) = c .price-score .ensures ∙ ap (price r (at xs i)) (c .loop-j .inv .front j (c .loop-j-test .taken)) in
-    shows-like xs n (met (stage r (at xs) n i j) i j p) (stage r (at xs) n i (j + 1)) (c .offer-in-loop-j .last .table)
-    (λ k h. ap (λ m. met (stage r (at xs) n i j) i j m k) e ∙ step r (at xs) n i j k)
-    (shows-met xs n (stage r (at xs) n i j) (c .loop-j .table) (c .offer .last .table) (c .offer-in-loop-j .last .table) i j p (omega arith) (omega arith) (omega arith) (c .loop-j .inv) (c .offer .ensures) (c .offer-in-loop-j .ensures))
+    let e : c .score-score .result ≡ pair-score r (at xs i) (at xs j) = c .score-score .ensures ∙ ap (pair-score r (at xs i)) (c .loop-j .inv .front j (c .loop-j-test .taken)) in
+    shows-step r xs t (c .meet .last .table) (c .args .n) i j (omega arith) (omega arith) (omega arith) (c .loop-j .inv) (c .meet .ensures ∙ ap (exchanged t i j) e)
 
 pub returns-then-not-has-direction : need.returns-then-not-has-direction
 returns-then-not-has-direction c =

@@ -1,1 +1,2 @@
 pub mod Tiled
+pub mod Placed

@@ -1,3 +1,4 @@
 pub mod Faults
 pub mod Tilings
 pub mod Placing
+pub mod Books

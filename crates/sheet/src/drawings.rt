@@ -17,7 +17,7 @@ pub struct Drawing {
     ghost few_contours: { vec-len contours ≤ 128 },
     ghost points_room: { 2048 ≤ vec-cap points },
     ghost contours_room: { 128 ≤ vec-cap contours },
-    ghost tiled: { tiles 0 (vec-items contours) (vec-len points) ≡ true },
+    ghost tiled: { tiles 0 (vec-len points) (vec-items contours) ≡ true },
 }
 
 pub mod making;

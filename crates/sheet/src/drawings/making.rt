@@ -1,13 +1,17 @@
 // Placing a source's points on an empty sheet, and asking what is drawn.
 ghost use mathlib.Core.Path.{_≡_};
-ghost use mathlib.Core.Bool.{true};
-ghost use mathlib.Core.List.{[]};
+ghost use mathlib.Core.Bool.{true, false, _||_};
+ghost use mathlib.Core.List.{[], _∷_, _++_};
 ghost use Prim.Native.Nat.{ℕ, _+_, _≤_, _<_};
-ghost use lib.ListN.{length};
-ghost use Rattle.std.specs.Of.Vec.{vec-len, vec-cap, vec-items};
+ghost use lib.Dec.{eqb};
+ghost use lib.ListN.{length, getD};
+ghost use Rattle.std.specs.Of.Vec.{vec-len, vec-items};
 ghost use Rattle.std.specs.Results.{isOk};
-ghost use Rattle.sheet.specs.Tilings.{Tiles};
-ghost use Rattle.sheet.specs.Placing.{within, admitted};
+ghost use Rattle.std.specs.Vec.{made};
+ghost use Rattle.unscaled.specs.Entries.{past-count};
+ghost use Rattle.unscaled.specs.Placements.{in-range};
+ghost use Rattle.sheet.specs.Books.{book};
+ghost use Rattle.sheet.specs.Placing.{admitted, lengthened, extended, entered, drawn-from, placed, with-contours};
 use super::Drawing;
 use crate::faults::EditFault;
 use crate::faults::EditFaultFromSource;
@@ -19,11 +23,13 @@ use unscaled::Source;
 use unscaled::UnscaledPoint;
 
 const LIMIT: i32 = 16383;
+
 const MOST_POINTS: usize = 2048;
+
 const MOST_CONTOURS: usize = 128;
 
 fn is_within(c: i32) -> bool
-    ensures { λ r. ⌜ r ≡ within c ⌝ }
+    ensures { λ r. ⌜ r ≡ in-range c ⌝ }
 {
     -LIMIT <= c && c <= LIMIT
 }
@@ -42,59 +48,105 @@ fn admit(point: UnscaledPoint) -> Result<DrawnPoint, EditFault>
     })
 }
 
-// Point `at` opens a contour, or lengthens the last one.
-fn extend(contours: &mut Vec<Contour>, at: usize, opens: bool) -> Result<(), EditFault>
-    requires tiled { ⌜ Tiles 0 (vec-items (now contours)) at ⌝ }
-    requires room { ⌜ 128 ≤ vec-cap (now contours) ⌝ }
-    requires few { ⌜ vec-len (now contours) ≤ 128 ⌝ }
-    requires fits { ⌜ at < 2048 ⌝ }
-    ensures tiled { λ r. ⌜ (isOk r ≡ true → Tiles 0 (vec-items (now (contours .exit))) (at + 1)) ⌝ }
-    ensures room { λ r. ⌜ vec-cap (now (contours .exit)) ≡ vec-cap (now (contours .entry)) ⌝ }
-    ensures few { λ r. ⌜ vec-len (now (contours .exit)) ≤ 128 ⌝ }
+// Whether a point is the first of a contour, where `held` contours are there.
+fn is_first(opens: bool, held: usize) -> bool
+    ensures { λ r. ⌜ r ≡ (opens || eqb held 0) ⌝ }
 {
-    let held = contours.len();
-    if opens || held == 0 {
-        if held >= MOST_CONTOURS {
-            return Err(EditFault::TooManyContours);
-        }
-        contours.push_reserved(Contour { first: at, end: at + 1 });
-    } else {
-        let first = contours[held - 1].first;
-        contours[held - 1] = Contour { first, end: at + 1 };
-    }
-    Ok(())
-}
-
-// Takes in the source's points, in order, after `points` and `contours` were emptied.
-fn gather<S: Source>(source: &S, points: &mut Vec<DrawnPoint>, contours: &mut Vec<Contour>) -> Result<(), EditFault>
-    requires few { ⌜ length (S·Source .list (now source)) ≤ 2048 ⌝ }
-    requires points { ⌜ (vec-len (now points) ≡ 0) × (2048 ≤ vec-cap (now points)) ⌝ }
-    requires contours { ⌜ (vec-items (now contours) ≡ []) × (vec-len (now contours) ≡ 0) × (128 ≤ vec-cap (now contours)) ⌝ }
-    ensures tiled { λ r. ⌜ (isOk r ≡ true → Tiles 0 (vec-items (now (contours .exit))) (vec-len (now (points .exit)))) ⌝ }
-    ensures points { λ r. ⌜ (vec-len (now (points .exit)) ≤ 2048) × (2048 ≤ vec-cap (now (points .exit))) ⌝ }
-    ensures contours { λ r. ⌜ (vec-len (now (contours .exit)) ≤ 128) × (128 ≤ vec-cap (now (contours .exit))) ⌝ }
-{
-    for i in 0..source.count() {
-        let point = source.entry(i)?;
-        let drawn = admit(point)?;
-        extend(contours, i, point.is_contour_start)?;
-        points.push_reserved(drawn);
-    }
-    Ok(())
+    opens || held == 0
 }
 
 impl Drawing {
     // An empty drawing, with room for all that it may hold.
-    pub fn new(heap: Global) -> Result<Drawing, AllocError> {
+    pub fn new(heap: Global) -> Result<Drawing, AllocError>
+        ensures { λ r. ⌜ made r (λ d. book d ≡ []) ⌝ }
+    {
         let points = Vec::with_capacity(heap, MOST_POINTS)?;
         let contours = Vec::with_capacity(heap, MOST_CONTOURS)?;
         Ok(Drawing { points, contours })
     }
 
-    // Draws a source's contours in the place of what was drawn; refused, it leaves an empty drawing.
-    pub fn draw<S: Source>(&mut self, source: &S) -> Result<(), EditFault> {
+    fn clear(&mut self)
+        ensures book { λ _. ⌜ book (now (self .exit)) ≡ [] ⌝ }
+        ensures len { λ _. ⌜ vec-len (now (self .exit) .points) ≡ 0 ⌝ }
+    {
         self.points.clear();
         self.contours.clear();
+    }
+
+    fn open_contour(&mut self, point: DrawnPoint)
+        requires points { ⌜ vec-len (now self .points) < 2048 ⌝ }
+        requires contours { ⌜ vec-len (now self .contours) < 128 ⌝ }
+        ensures book { λ _. ⌜ book (now (self .exit)) ≡ book (now (self .entry)) ++ (point ∷ []) ∷ [] ⌝ }
+        ensures len { λ _. ⌜ vec-len (now (self .exit) .points) ≡ vec-len (now (self .entry) .points) + 1 ⌝ }
+    {
+        let at = self.points.len();
+        self.contours.push_reserved(Contour {
+            first: at,
+            end: at + 1,
+        });
+        self.points.push_reserved(point);
+    }
+
+    fn lengthen_contour(&mut self, point: DrawnPoint)
+        requires points { ⌜ vec-len (now self .points) < 2048 ⌝ }
+        requires contours { ⌜ 0 < vec-len (now self .contours) ⌝ }
+        ensures book { λ _. ⌜ book (now (self .exit)) ≡ lengthened (book (now (self .entry))) point ⌝ }
+        ensures len { λ _. ⌜ vec-len (now (self .exit) .points) ≡ vec-len (now (self .entry) .points) + 1 ⌝ }
+    {
+        let end = self.points.len() + 1;
+        let last = self.contours.len() - 1;
+        let first = self.contours[last].first;
+        self.contours[last] = Contour { first, end };
+        self.points.push_reserved(point);
+    }
+
+    // Adds a point at the end: it opens a contour, or lengthens the last. Refused, it adds nothing.
+    fn add_point(&mut self, point: DrawnPoint, opens: bool) -> Result<(), EditFault>
+        requires { ⌜ vec-len (now self .points) < 2048 ⌝ }
+        ensures book { λ r. ⌜ with-contours r (book (now (self .exit))) ≡ extended 0 (book (now (self .entry))) opens point ⌝ }
+        ensures len { λ r. ⌜ (isOk r ≡ true → vec-len (now (self .exit) .points) ≡ vec-len (now (self .entry) .points) + 1) ⌝ }
+    {
+        let held = self.contours.len();
+        if !is_first(opens, held) {
+            self.lengthen_contour(point);
+            return Ok(());
+        }
+        if held >= MOST_CONTOURS {
+            return Err(EditFault::TooManyContours);
+        }
+        self.open_contour(point);
+        Ok(())
+    }
+
+    // Takes in the entry at `index`.
+    fn take_entry<S: Source>(&mut self, source: &S, index: usize) -> Result<(), EditFault>
+        requires room { ⌜ vec-len (now self .points) < 2048 ⌝ }
+        ensures book { λ r. ⌜ with-contours r (book (now (self .exit))) ≡ entered 0 (book (now (self .entry))) (getD (S·Source .list (now (source .entry))) index (past-count (S·Source .placed (now (source .entry))) index)) ⌝ }
+        ensures len { λ r. ⌜ (isOk r ≡ true → vec-len (now (self .exit) .points) ≡ vec-len (now (self .entry) .points) + 1) ⌝ }
+    {
+        let point = source.entry(index)?;
+        let drawn = admit(point)?;
+        self.add_point(drawn, point.is_contour_start)
+    }
+
+    // Takes in a source's entries, in order, where nothing is drawn yet.
+    fn take_all<S: Source>(&mut self, source: &S) -> Result<(), EditFault>
+        requires few { ⌜ length (S·Source .list (now source)) ≤ 2048 ⌝ }
+        requires empty { ⌜ vec-len (now self .points) ≡ 0 ⌝ }
+        ensures { λ r. ⌜ with-contours r (book (now (self .exit))) ≡ drawn-from 0 (book (now (self .entry))) (S·Source .list (now (source .entry))) ⌝ }
+    {
+        for i in 0..source.count() {
+            self.take_entry(source, i)?;
+        }
+        Ok(())
+    }
+
+    // Draws a source's contours in the place of what was drawn; refused, it leaves an empty drawing.
+    pub fn draw<S: Source>(&mut self, source: &S) -> Result<(), EditFault>
+        ensures book { λ r. ⌜ with-contours r (book (now (self .exit))) ≡ placed 0 0 (S·Source .list (now (source .entry))) ⌝ }
+        ensures refused { λ r. ⌜ (isOk r ≡ false → book (now (self .exit)) ≡ []) ⌝ }
+    {
+        self.clear();
         let count = source.count();
         if count == 0 {
             return Err(EditFault::NoPoints);
@@ -102,11 +154,10 @@ impl Drawing {
         if count > MOST_POINTS {
             return Err(EditFault::TooManyPoints);
         }
-        match gather(source, &mut self.points, &mut self.contours) {
+        match self.take_all(source) {
             Ok(()) => Ok(()),
             Err(fault) => {
-                self.points.clear();
-                self.contours.clear();
+                self.clear();
                 Err(fault)
             }
         }

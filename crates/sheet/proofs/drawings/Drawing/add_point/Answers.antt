@@ -1,0 +1,30 @@
+use mathlib.Core.Path.{_≡_}
+use Prim.Native.Nat.{ℕ}
+use native.Mathlib.Omega.{arith}
+use Rattle.std.specs.Of.Vec.{vec-items}
+use Rattle.sheet.proofs.Placed.{point-lengthens, point-refused, point-opens}
+use Rattle.sheet.proofs.drawings.Drawing.add_point.Needs as need
+
+pub returns-then-not-is-first : need.returns-then-not-is-first
+returns-then-not-is-first c =
+    let self = c .args .self .now in
+    record {
+      book = point-lengthens (vec-items (self .contours)) (vec-items (self .points)) _ _ _ _ (omega (arith, c .len-held .ensures, self .contours .ok .0)) (c .is-first .ensures) _ (c .if-not-is-first .taken) (c .lengthen-contour .ensures .book);
+      len = λ _. c .lengthen-contour .ensures .len;
+    }
+
+pub returns-then-held-ge-MOST-CONTOURS : need.returns-then-held-ge-MOST-CONTOURS
+returns-then-held-ge-MOST-CONTOURS c =
+    let self = c .args .self .now in
+    record {
+      book = point-refused (vec-items (self .contours)) (vec-items (self .points)) _ _ _ _ (omega (arith, c .len-held .ensures, self .contours .ok .0)) (c .is-first .ensures) (c .if-not-is-first .left) (c .if-held-ge-MOST-CONTOURS .taken);
+      len = λ e. absurd (let z : _≡_ {A = ℕ} 0 1 = cc in omega arith);
+    }
+
+pub returns : need.returns
+returns c =
+    let self = c .args .self .now in
+    record {
+      book = point-opens (vec-items (self .contours)) (vec-items (self .points)) _ _ _ _ (omega (arith, c .len-held .ensures, self .contours .ok .0)) (c .is-first .ensures) _ (c .if-not-is-first .left) (omega arith) (c .open-contour .ensures .book);
+      len = λ _. c .open-contour .ensures .len;
+    }

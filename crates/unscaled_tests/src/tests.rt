@@ -13,38 +13,17 @@ use unscaled::SourceFault;
 use unscaled::UnscaledPoint;
 
 // Three points: a start on the curve at (100, -2), a control at (16000, 0), and one of an unknown kind.
-const RECORD: [u8; 23] = [
-    1,
-    0,
-    20,
-    3,
-    232,
-    0,
-    90,
-    1,
-    0,
-    100,
-    255,
-    254,
-    3,
-    62,
-    128,
-    0,
-    0,
-    0,
-    0,
-    0,
-    0,
-    0,
-    4,
-];
+const RECORD: &[u8; 23] = b"\x01\x00\x14\x03\xE8\x00\x5A\x01\
+    \x00\x64\xFF\xFE\x03\
+    \x3E\x80\x00\x00\x00\
+    \x00\x00\x00\x00\x04";
 
 // The entry at the index under three placements, the middle one far to the right.
 fn asked_under_three(index: usize) -> Result<UnscaledPoint, Refusal> {
     let source = Placement {
         below: Placement {
             below: Placement {
-                below: RecordPoints::of_record(&RECORD),
+                below: RecordPoints::of_record(RECORD),
                 dx: 10,
                 dy: 20,
             },
@@ -98,7 +77,7 @@ fn tells_an_index_past_the_count() -> Result<(), Fail> {
 
 #[test]
 fn reads_a_header() -> Result<(), Fail> {
-    match settings_of(&RECORD) {
+    match settings_of(RECORD) {
         Ok(settings) => check(settings.units() == 1000 && settings.width() == 90),
         Err(_) => Err(Fail::new("refused")),
     }

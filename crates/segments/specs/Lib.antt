@@ -1,0 +1,11 @@
+pub mod Faults
+pub mod Majors
+pub mod Measures
+pub mod States
+pub mod Segments
+pub mod Walks
+pub mod Closing
+pub mod Starts
+pub mod Building
+pub mod Stretches
+pub mod Readings

@@ -1,7 +1,12 @@
 // A segment as a table holds it.
+ghost use mathlib.Core.Path.{_≡_};
+ghost use Rattle.segments.specs.Segments.{blank};
 use crate::measures::Coordinate;
 use crate::measures::Position;
 use outline::Direction;
+
+// The score of a segment that has no partner.
+pub const NO_SCORE: u32 = 32000;
 
 #[derive(Clone, Copy)]
 pub struct Segment {
@@ -20,4 +25,26 @@ pub struct Segment {
     // indices of points
     pub first: u16,
     pub last: u16,
+}
+
+impl Segment {
+    // An entry that holds no segment.
+    pub fn blank() -> Segment
+        ensures { λ r. ⌜ r ≡ blank ⌝ }
+    {
+        Segment {
+            dir: Direction::None,
+            pos: Position(0),
+            delta: 0,
+            min_coord: Coordinate(0),
+            max_coord: Coordinate(0),
+            height: 0,
+            round: false,
+            score: NO_SCORE,
+            link: None,
+            serif: None,
+            first: 0,
+            last: 0,
+        }
+    }
 }

@@ -1,0 +1,10 @@
+use mathlib.Core.Path.{_≡_}
+use Prim.Native.Nat.{_≤_}
+use mathlib.Core.List.{_++_}
+use lib.ListN.{length, take, drop}
+use Rattle.segments.specs.Readings.{all-entries, overflows, Inside}
+use Rattle.segments.proofs.Contours.{Filling}
+use Rattle.segments.proofs.readings.fill.Given as given
+
+abbrev pub Inv-loop-contour : given.InvT-loop-contour
+Inv-loop-contour l = Filling (l .dim) (l .units) (l .points) (l .contours) (l .entry .table) (l .contour-index) (l .held) (l .table)

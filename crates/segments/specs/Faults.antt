@@ -1,0 +1,7 @@
+-- The numbers of refused readings.
+use Prim.Native.Nat.{ℕ}
+use Rattle.segments.specs.declared.faults.BuildFault.{BuildFault}
+use Rattle.segments.specs.declared.faults.BuildFault.the-variants.{TooManySegments}
+
+abbrev pub number : BuildFault → ℕ
+number TooManySegments = 17

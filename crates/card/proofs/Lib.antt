@@ -1,0 +1,4 @@
+pub mod Spaced
+pub mod Spelt
+pub mod Paired
+pub mod Gathered

@@ -1,0 +1,87 @@
+// The whole card as text.
+ghost use mathlib.Core.Path.{_≡_};
+ghost use mathlib.Core.List.{[], _∷_, _++_};
+ghost use Prim.Native.Nat.{_≤_};
+ghost use lib.ListN.{length};
+ghost use Rattle.std.specs.Of.String.{string-bytes};
+ghost use Rattle.std.specs.Text.{Ascii};
+ghost use Rattle.std.specs.Vec.{made};
+ghost use Rattle.std.specs.Written.{decimal};
+ghost use Rattle.card.specs.Held.{text};
+ghost use Rattle.card.specs.Lines.{line-of};
+ghost use Rattle.card.specs.Cards.{card, head-words, refused-words, segment-lines, text-of};
+use crate::lines::Line;
+use crate::rows::segment_line;
+use crate::stems::stem_count;
+use crate::words::area_word;
+use crate::words::put_number;
+use crate::words::put_word;
+use outline::Orientation;
+use segments::Dimension;
+use segments::Segment;
+use std::alloc::AllocError;
+use std::alloc::Global;
+
+fn head_line(points: usize, contours: usize, orientation: Option<Orientation>) -> Line
+    ensures { λ r. ⌜ text r ≡ line-of (head-words points contours orientation) ⌝ }
+{
+    let mut line = Line::new();
+    line.push_str("points");
+    put_number(&mut line, points as u64);
+    put_word(&mut line, "contours");
+    put_number(&mut line, contours as u64);
+    put_word(&mut line, "area");
+    put_word(&mut line, area_word(orientation));
+    line.push(b'\n');
+    line
+}
+
+// A word and a number.
+fn count_line(word: &str, n: u64) -> Line
+    requires room { ⌜ length (now word) ≤ 40 ⌝ }
+    requires ascii { ⌜ Ascii (now word) ⌝ }
+    ensures { λ r. ⌜ text r ≡ line-of (now (word .entry) ∷ decimal n ∷ []) ⌝ }
+{
+    let mut line = Line::new();
+    line.push_str(word);
+    put_number(&mut line, n);
+    line.push(b'\n');
+    line
+}
+
+// A line for each segment of one axis.
+fn push_segments(card: &mut String, dim: Dimension, segments: &[Segment]) -> Result<(), AllocError>
+    ensures { λ r. ⌜ made r (λ _. string-bytes (now (card .exit)) ≡ string-bytes (now (card .entry)) ++ text-of (segment-lines dim 0 (now (segments .entry)))) ⌝ }
+{
+    for (index, segment) in segments.iter().enumerate() {
+        card.push_str(segment_line(dim, index, segment).as_str())?;
+    }
+    Ok(())
+}
+
+// The card of an outline, from its counts, its orientation and its finished readings.
+pub fn card_text(
+    heap: Global,
+    points: usize,
+    contours: usize,
+    orientation: Option<Orientation>,
+    horizontal: &[Segment],
+    vertical: &[Segment],
+) -> Result<String, AllocError>
+    ensures { λ r. ⌜ made r (λ s. string-bytes s ≡ text-of (card points contours orientation (now (horizontal .entry)) (now (vertical .entry)))) ⌝ }
+{
+    let mut text = String::new(heap);
+    text.push_str(head_line(points, contours, orientation).as_str())?;
+    push_segments(&mut text, Dimension::Horizontal, horizontal)?;
+    push_segments(&mut text, Dimension::Vertical, vertical)?;
+    let stems = stem_count(horizontal) + stem_count(vertical);
+    text.push_str(count_line("stems", stems as u64).as_str())?;
+    Ok(text)
+}
+
+// What is printed in place of a card that is refused.
+pub fn refused_text(heap: Global, number: u8) -> Result<String, AllocError>
+    ensures { λ r. ⌜ made r (λ s. string-bytes s ≡ text-of (refused-words number ∷ [])) ⌝ }
+{
+    String::from_str(heap, count_line("refused", u64::from(number)).as_str())
+}

@@ -16,6 +16,7 @@ use Rattle.std.proofs.shelf.Lists.{getD-push, length-push, map-push}
 use Rattle.outline.specs.declared.contours.Contour.{Contour}
 use Rattle.outline.specs.declared.points.DrawnPoint.{DrawnPoint}
 use Rattle.analysis.specs.Outlines.{Tiles, points-of, cut-out}
+use Rattle.segments.specs.Readings.{Inside}
 use Rattle.sheet.specs.Tilings.{tiles}
 use Rattle.sheet.specs.Placing.{lengthened}
 
@@ -112,3 +113,14 @@ pub grown-book : (n end k f : ℕ) (cs : List Contour) (d : Contour) (ps ps′ :
     → cut-out (set cs k (record { first = f; end = end })) ps′ ≡ lengthened (cut-out cs ps) q
 grown-book n end k f cs d ps ps′ q t a m l h r =
     rw (a, r) (cut-out-grow 0 n k f cs d ps q (decides-tiles 0 n cs .0 t) (sym m) l h)
+
+-- what a drawing holds, as the layers above ask for it
+pub told-tiles : (n m : ℕ) (cs cs′ : List Contour) → tiles 0 n cs ≡ true → m ≡ n → cs′ ≡ cs → Tiles 0 m cs′
+told-tiles n m cs cs′ t e c = rw (e, c) (decides-tiles 0 n cs .0 t)
+
+tiles-inside : (b n : ℕ) (cs : List Contour) → Tiles b n cs → Inside n cs
+tiles-inside b n [] h = tt
+tiles-inside b n (c ∷ cs) h = (omega (arith, h .1), tiles-le (c .end) n cs (h .2), tiles-inside (c .end) n cs (h .2))
+
+pub told-inside : (n m : ℕ) (cs cs′ : List Contour) → tiles 0 n cs ≡ true → m ≡ n → cs′ ≡ cs → Inside m cs′
+told-inside n m cs cs′ t e c = tiles-inside 0 m cs′ (told-tiles n m cs cs′ t e c)

@@ -2,3 +2,4 @@ pub mod Faults
 pub mod Tilings
 pub mod Placing
 pub mod Books
+pub mod Readings

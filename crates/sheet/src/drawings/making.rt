@@ -165,6 +165,7 @@ impl Drawing {
 
     pub fn points(&self) -> &[DrawnPoint]
         ensures value { λ r. ⌜ now r ≡ vec-items (now (self .entry) .points) ⌝ }
+        ensures len { λ r. ⌜ length (now r) ≡ vec-len (now (self .entry) .points) ⌝ }
         ensures few { λ r. ⌜ length (now r) ≤ 2048 ⌝ }
     {
         self.points.as_slice()

@@ -96,7 +96,15 @@ impl Drawing {
         requires out { ⌜ length (now out) ≡ vec-len (now self .points) ⌝ }
         ensures { λ _. ⌜ now (out .exit) ≡ outline-records (R·CornerRule .flat (now (rule .entry))) (near-limit (now (settings .entry) .units)) 0 (book (now (self .entry))) ⌝ }
     {
-        analyze_outline(rule, settings, self.points(), self.contours(), legs, marks, out);
+        analyze_outline(
+            rule,
+            settings,
+            self.points(),
+            self.contours(),
+            legs,
+            marks,
+            out,
+        );
     }
 
     // The way round that the contours are drawn.

@@ -9,8 +9,9 @@ pub build-segments-requires : need.build-segments-requires
 build-segments-requires c κs =
     let self = c .args .self .now in
     let count : length (c .points .result .now) ≡ vec-len (self .drawing .points) =
-      omega (arith, ap length (c .points .ensures), self .points .ok .0, self .counted) in
+    omega (arith, ap length (c .points .ensures), self .points .ok .0, self .counted) in
     record {
       points = omega (arith, count, self .drawing .«few_points»);
       contours = told-inside _ _ _ _ (self .drawing .tiled) count (c .contours .ensures);
-      table = omega arith }
+      table = omega arith;
+    }

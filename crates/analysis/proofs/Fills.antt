@@ -1,3 +1,4 @@
+-- Records and how they are written.
 use mathlib.Core.Path.{_≡_, refl, sym, ap, _∙_}
 use mathlib.Core.List.{List, [], _∷_, map}
 use Prim.Native.Nat.{ℕ, _+_, _<_}
@@ -12,7 +13,8 @@ use Rattle.walk.specs.declared.marks.Mark.{Mark}
 use Rattle.outline.specs.declared.points.Point.{Point}
 use Rattle.analysis.specs.Records.{record-at, records, analysed, marks-of, shifted, is-near, preceding}
 use Rattle.walk.specs.Steps.{origin, following}
-use Rattle.walk.specs.Marks.{blank}
+use Rattle.walk.specs.Marks.{blank, walked}
+use Rattle.analysis.specs.Passes.{simplified, checked}
 
 pub filled : {X : Type 0} (d : X) (xs : List X) (n : ℕ) → length xs ≡ n → ((k : ℕ) → k < n → getD xs k d ≡ d) → xs ≡ replicate n d
 filled d xs n e h =
@@ -49,3 +51,10 @@ pub record-is : (N b : ℕ) (ps : List DrawnPoint) (ms : List Mark) (i : ℕ) (x
     } ≡ record-at N b ps ms i
 unfolding record-at
 record-is N b ps ms i x y n next prev e₁ e₂ e₃ e₄ e₅ = simp (e₁, e₂, e₃, e₄, e₅)
+
+-- the parts of a contour's analysis, one after another
+pub whole : (F : ℤ → ℤ → ℤ → ℤ → Bool) (N N′ b n : ℕ) (ps : List DrawnPoint) (m₀ m₁ m₂ m₃ : List Mark) (out : List Point)
+    → N′ ≡ N → n ≡ length ps → m₀ ≡ replicate n blank → m₁ ≡ walked N ps m₀ → m₂ ≡ simplified ps m₁ → m₃ ≡ checked F ps m₂ → out ≡ records N′ b ps m₃
+    → out ≡ analysed F N b ps
+unfolding analysed marks-of
+whole F N N′ b n ps m₀ m₁ m₂ m₃ out d e e₀ e₁ e₂ e₃ e₄ = cc

@@ -1,21 +1,18 @@
-use mathlib.Core.Path.{_≡_, refl, sym, ap, _∙_}
-use mathlib.Core.Bool.{Bool, true, false, cond, not}
+-- What the second pass makes of a point.
+use mathlib.Core.Path.{_≡_, sym, ap, _∙_}
+use mathlib.Core.Bool.{Bool, true, false}
 use mathlib.Core.List.{List}
-use Prim.Native.Nat.{ℕ, _<_}
-use native.Mathlib.Omega.{arith}
+use Prim.Native.Nat.{ℕ}
 use lib.IntN.{ℤ}
-use lib.ListN.{length, getD}
-use Rattle.std.specs.shelf.Lists.{All}
-use Rattle.std.proofs.shelf.Elements.{all-getD}
+use lib.ListN.{getD}
 use Rattle.std.proofs.shelf.Tests.{cond-true, cond-false, not-from-true, not-from-false}
 use Rattle.outline.specs.declared.points.DrawnPoint.{DrawnPoint}
 use Rattle.walk.specs.declared.marks.Mark.{Mark}
 use Rattle.walk.specs.Steps.{origin}
 use Rattle.walk.specs.Marks.{blank}
 use Rattle.analysis.specs.declared.verdicts.Verdict.{Verdict}
-use Rattle.analysis.specs.declared.verdicts.Verdict.the-variants.{Keep, Weaken, Bypass}
-use Rattle.analysis.specs.Passes.{Linked, judged, judged-corner, judged-directed, undirected, on-curve, applied, checked-at}
-use Rattle.analysis.proofs.Bypasses.{linked-weaken, linked-bypass}
+use Rattle.analysis.specs.declared.verdicts.Verdict.the-variants.{Keep, Weaken}
+use Rattle.analysis.specs.Passes.{judged, judged-corner, judged-directed, undirected, on-curve, applied, checked-at}
 
 module _ (F : ℤ → ℤ → ℤ → ℤ → Bool) (ps : List DrawnPoint) (i : ℕ) (m : Mark) where
   pub judged-weak : m .weak ≡ true → Keep ≡ judged F ps i m
@@ -38,19 +35,7 @@ module _ (F : ℤ → ℤ → ℤ → ℤ → Bool) (ps : List DrawnPoint) (i : 
   judged-lined o u r e f k t d h =
       h ∙ sym (cond-false (m .weak) _ _ e ∙ cond-false _ _ _ (not-from-true _ (sym k ∙ f)) ∙ cond-false (undirected m) _ _ (sym d ∙ t))
 
-linked-applied : (n i : ℕ) (m : Mark) (ms : List Mark) → length ms ≡ n → i < n → Linked n m → All (Linked n) ms
-    → (r : Verdict) → All (Linked n) (applied r i m ms)
-linked-applied n i m ms e in′ k l Keep = l
-linked-applied n i m ms e in′ k l Weaken = linked-weaken n i ms e in′ l
-linked-applied n i m ms e in′ k l Bypass = linked-bypass n i m ms e in′ k l
-
-pub linked-checked : (F : ℤ → ℤ → ℤ → ℤ → Bool) (ps : List DrawnPoint) (i : ℕ) (ms : List Mark) → length ms ≡ length ps → i < length ps
-    → All (Linked (length ps)) ms → All (Linked (length ps)) (checked-at F ps i ms)
-unfolding checked-at
-linked-checked F ps i ms e in′ l =
-    let k = all-getD (Linked (length ps)) ms i blank (omega arith) l in
-    linked-applied (length ps) i (getD ms i blank) ms e in′ k l (judged F ps i (getD ms i blank))
-
+-- one step of the second pass
 pub checked-step : (F : ℤ → ℤ → ℤ → ℤ → Bool) (ps : List DrawnPoint) (i : ℕ) (ms xs : List Mark) (r : Verdict)
     → r ≡ judged F ps i (getD ms i blank) → xs ≡ applied r i (getD ms i blank) ms → xs ≡ checked-at F ps i ms
 unfolding checked-at

@@ -1,41 +1,75 @@
--- u and v are points of the contour after the walk.
-use mathlib.Core.Path.{_≡_, refl, sym, ap, _∙_}
-use mathlib.Core.Bool.{Bool, true, false, cond, not}
+-- u and v are points of the contour: after the walk, and after each step of a pass.
+use mathlib.Core.Path.{_≡_, _∙_}
+use mathlib.Core.Bool.{Bool, true, not}
 use mathlib.Core.List.{List, [], _∷_}
-use Prim.Native.Nat.{ℕ, zero, suc, _+_, _<_, _≤_}
+use Prim.Native.Nat.{ℕ, zero, suc, _+_, _<_}
 use native.Mathlib.Omega.{arith}
 use lib.IntN.{ℤ}
-use lib.ListN.{length, replicate}
+use lib.ListN.{length, getD, replicate}
 use Rattle.std.specs.shelf.Lists.{All}
-use Rattle.std.proofs.shelf.Lists.{length-replicate, getD-replicate}
-use Rattle.std.proofs.shelf.Tests.{cond-both, ltb-true, ltb-false}
+use Rattle.std.proofs.shelf.Elements.{all-getD, all-set}
+use Rattle.std.proofs.shelf.Lists.{length-replicate}
+use Rattle.std.proofs.shelf.Tests.{cond-both, ltb-true}
 use Rattle.outline.specs.declared.points.DrawnPoint.{DrawnPoint}
 use Rattle.walk.specs.declared.legs.Leg.{Leg}
 use Rattle.walk.specs.declared.marks.Mark.{Mark}
-use Rattle.walk.specs.Steps.{following, steps-from, no-step}
-use Rattle.walk.specs.Starts.{wrap, start-of, stepped-back}
-use Rattle.walk.specs.Legs.{cuts, spread}
+use Rattle.walk.specs.Steps.{following}
+use Rattle.walk.specs.Starts.{start-of}
 use Rattle.walk.specs.Marks.{blank, at, join, stepped, last-end, dealt, dealt-all, walked, with-u, with-v, with-weak, with-in, with-out}
-use Rattle.analysis.specs.Passes.{Linked, simplified, checked}
-use Rattle.analysis.proofs.Bypasses.{linked-at, length-at, linked-join}
-use Rattle.outline.specs.declared.points.Point.{Point}
-use Rattle.analysis.specs.Records.{marks-of, records, analysed}
+use Rattle.walk.proofs.Laws.{start-in}
+use Rattle.walk.proofs.Rounds.{length-at}
+use Rattle.analysis.specs.declared.verdicts.Verdict.{Verdict}
+use Rattle.analysis.specs.declared.verdicts.Verdict.the-variants.{Keep, Weaken, Bypass}
+use Rattle.analysis.specs.Passes.{Linked, is-straight, weaken, bypass, simplified-at, judged, applied, checked-at}
 
 -- marks of n points, each linked within the contour
-record Good (n : ℕ) (ms : List Mark) : Type 0 where
-  long : length ms ≡ n
-  all : All (Linked n) ms
+pub record Good (n : ℕ) (ms : List Mark) : Type 0 where
+  pub long : length ms ≡ n
+  pub all : All (Linked n) ms
+
+-- the mark of a point
+pub linked-one : (n i : ℕ) (ms : List Mark) → length ms ≡ n → i < n → All (Linked n) ms → Linked n (getD ms i blank)
+linked-one n i ms e in′ a = all-getD (Linked n) ms i blank (omega arith) a
 
 good-at : (n i : ℕ) (f : Mark → Mark) (ms : List Mark) → ((m : Mark) → Linked n m → Linked n (f m)) → i < n → Good n ms → Good n (at i f ms)
-good-at n i f ms keeps in′ g =
-    let e = g .long in
-    record { long = length-at i f ms ∙ e; all = linked-at n i f ms keeps (omega arith) (g .all) }
+unfolding at
+good-at n i f ms keeps in′ g = record {
+  long = length-at i f ms ∙ g .long;
+  all = all-set (Linked n) ms i _ (keeps _ (linked-one n i ms (g .long) in′ (g .all))) (g .all);
+}
 
 good-join : (n a b : ℕ) (ms : List Mark) → a < n → b < n → Good n ms → Good n (join a b ms)
 unfolding join
 good-join n a b ms in-a in-b g =
     good-at n b (with-v a) _ (λ m k. (k .0, in-a)) in-b (good-at n a (with-u b) ms (λ m k. (in-b, k .1)) in-a g)
 
+-- the passes
+good-weaken : (n i : ℕ) (ms : List Mark) → i < n → Good n ms → Good n (weaken i ms)
+good-weaken n i ms in′ g = good-at n i (with-weak true) ms (λ m k. k) in′ g
+
+good-bypass : (n i : ℕ) (m : Mark) (ms : List Mark) → i < n → Linked n m → Good n ms → Good n (bypass i m ms)
+good-bypass n i m ms in′ k g = good-join n (m .v) (m .u) (weaken i ms) (k .1) (k .0) (good-weaken n i ms in′ g)
+
+pub good-simplified : (ps : List DrawnPoint) (i : ℕ) (ms : List Mark) → i < length ps → Good (length ps) ms → Good (length ps) (simplified-at ps i ms)
+unfolding simplified-at
+good-simplified ps i ms in′ g =
+    let k = linked-one (length ps) i ms (g .long) in′ (g .all) in
+    cond-both (is-straight ps i (getD ms i blank)) _ _ (Good (length ps))
+    (λ _. good-bypass (length ps) i (getD ms i blank) ms in′ k g) (λ _. g)
+
+good-applied : (n i : ℕ) (m : Mark) (ms : List Mark) → i < n → Linked n m → Good n ms → (r : Verdict) → Good n (applied r i m ms)
+good-applied n i m ms in′ k g Keep = g
+good-applied n i m ms in′ k g Weaken = good-weaken n i ms in′ g
+good-applied n i m ms in′ k g Bypass = good-bypass n i m ms in′ k g
+
+pub good-checked : (F : ℤ → ℤ → ℤ → ℤ → Bool) (ps : List DrawnPoint) (i : ℕ) (ms : List Mark) → i < length ps → Good (length ps) ms
+    → Good (length ps) (checked-at F ps i ms)
+unfolding checked-at
+good-checked F ps i ms in′ g =
+    let k = linked-one (length ps) i ms (g .long) in′ (g .all) in
+    good-applied (length ps) i (getD ms i blank) ms in′ k g (judged F ps i (getD ms i blank))
+
+-- the walk
 good-stepped : (n i j : ℕ) (l : Leg) (ms : List Mark) → i < n → j < n → Good n ms → Good n (stepped i j l ms)
 unfolding stepped
 good-stepped n i j l ms in-i in-j g =
@@ -62,10 +96,6 @@ good-all n s e i (l ∷ ls) ms in-s in-e in-i g =
     good-all n s (last-end e (following n i) l) (following n i) ls (dealt e i (following n i) l ms)
     in-s (last-in n e (following n i) l in-e in-j) in-j (good-dealt n e i (following n i) l ms in-e in-i in-j g)
 
-start-in : (N : ℕ) (ps : List DrawnPoint) → 0 < length ps → start-of N ps < length ps
-unfolding start-of
-start-in N ps some = cond-both _ _ 0 (λ x. x < length ps) (λ t. ltb-true _ _ t) (λ _. some)
-
 blanks : (n m : ℕ) → 0 < n → All (Linked n) (replicate m blank)
 blanks n zero h = tt
 blanks n (suc m) h = ((h, h), blanks n m h)
@@ -79,10 +109,3 @@ walked-linked N ps ms xs some e w =
     record { long = length-replicate _ _; all = blanks (length ps) (length ps) some } in
     rw (w, e)
     (good-all (length ps) (start-of N ps) (start-of N ps) (start-of N ps) _ (replicate (length ps) blank) s s s first .all)
-
--- the parts of a contour's analysis, one after another
-pub whole : (F : ℤ → ℤ → ℤ → ℤ → Bool) (N N′ b n : ℕ) (ps : List DrawnPoint) (m₀ m₁ m₂ m₃ : List Mark) (out : List Point)
-    → N′ ≡ N → n ≡ length ps → m₀ ≡ replicate n blank → m₁ ≡ walked N ps m₀ → m₂ ≡ simplified ps m₁ → m₃ ≡ checked F ps m₂ → out ≡ records N′ b ps m₃
-    → out ≡ analysed F N b ps
-unfolding analysed marks-of
-whole F N N′ b n ps m₀ m₁ m₂ m₃ out d e e₀ e₁ e₂ e₃ e₄ = cc

@@ -9,7 +9,7 @@ use Rattle.std.specs.Holes.{between}
 use Rattle.outline.specs.declared.contours.Contour.{Contour}
 use Rattle.outline.specs.declared.points.DrawnPoint.{DrawnPoint}
 use Rattle.outline.specs.declared.points.Point.{Point}
-use Rattle.analysis.specs.Records.{analysed}
+use Rattle.analysis.specs.Records.{analysed, shifted}
 
 -- the contours have at least one point each, and lie one after another from point b up to point n
 abbrev pub Tiles : ℕ → ℕ → List Contour → Type 0
@@ -32,3 +32,9 @@ outline-records F N b (ps ∷ cs) = analysed F N b ps ++ outline-records F N (b 
 -- the records of one contour are written at its place; the others stay
 abbrev pub replaced : (ℤ → ℤ → ℤ → ℤ → Bool) → ℕ → Contour → List DrawnPoint → List Point → List Point
 replaced F N c ps out = take (c .first) out ++ (analysed F N (c .first) (points-of ps c) ++ drop (c .end) out)
+
+-- each contour's records are those that it has alone, with their neighbours moved up to its place
+abbrev pub Stand-alone : (ℤ → ℤ → ℤ → ℤ → Bool) → ℕ → List Contour → List DrawnPoint → List Point → Type 0
+Stand-alone F N cs ps out =
+    (before after : List Contour) (c : Contour) → cs ≡ before ++ (c ∷ after)
+    → between (c .first) (c .end) out ≡ map (shifted (c .first)) (analysed F N 0 (points-of ps c))

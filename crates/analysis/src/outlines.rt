@@ -3,7 +3,7 @@ ghost use mathlib.Core.Path.{_≡_};
 ghost use Prim.Native.Nat.{ℕ, _+_, _-_, _<_, _≤_};
 ghost use lib.ListN.{length};
 ghost use Rattle.outline.specs.Units.{near-limit};
-ghost use Rattle.analysis.specs.Outlines.{Tiles, cut-out, outline-records, replaced};
+ghost use Rattle.analysis.specs.Outlines.{Tiles, cut-out, outline-records, replaced, Stand-alone};
 use crate::contours::analyze_contour;
 use outline::Contour;
 use outline::CornerRule;
@@ -53,7 +53,8 @@ pub fn analyze_outline<R: CornerRule>(
 )
     requires { ⌜ Tiles 0 (length (now points)) (now contours) ⌝ ∗ ⌜ length (now points) ≤ 2048 ⌝ }
     requires { ⌜ length (now legs) ≡ length (now points) ⌝ ∗ ⌜ length (now marks) ≡ length (now points) ⌝ ∗ ⌜ length (now out) ≡ length (now points) ⌝ }
-    ensures { λ _. ⌜ now (out .exit) ≡ outline-records (flat (now (rule .entry))) (near-limit (now (settings .entry) .units)) 0 (cut-out (now (contours .entry)) (now (points .entry))) ⌝ }
+    ensures value { λ _. ⌜ now (out .exit) ≡ outline-records (flat (now (rule .entry))) (near-limit (now (settings .entry) .units)) 0 (cut-out (now (contours .entry)) (now (points .entry))) ⌝ }
+    ensures alone { λ _. ⌜ Stand-alone (flat (now (rule .entry))) (near-limit (now (settings .entry) .units)) (now (contours .entry)) (now (points .entry)) (now (out .exit)) ⌝ }
 {
     for contour in contours {
         analyze_span(rule, settings, points, *contour, legs, marks, out);

@@ -2,3 +2,9 @@ pub mod Backs
 pub mod Walks
 pub mod Spreads
 pub mod Deals
+pub mod Places
+pub mod Rounds
+pub mod Chains
+pub mod Directed
+pub mod Vectors
+pub mod Laws

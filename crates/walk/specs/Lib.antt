@@ -2,3 +2,4 @@ pub mod Steps
 pub mod Starts
 pub mod Legs
 pub mod Marks
+pub mod Ends

@@ -3,6 +3,7 @@ ghost use mathlib.Core.Path.{_≡_};
 ghost use Prim.Native.Nat.{ℕ, _<_};
 ghost use lib.ListN.{length};
 ghost use Rattle.outline.specs.Units.{near-limit};
+ghost use Rattle.walk.specs.Ends.{Walked-round, Sums-are-vectors};
 ghost use Rattle.walk.specs.Marks.{walked};
 use crate::legs::Leg;
 use crate::legs::cut_steps;
@@ -21,7 +22,9 @@ pub fn compute_directions(
     marks: &mut [Mark],
 )
     requires { ⌜ 0 < length (now points) ⌝ ∗ ⌜ length (now legs) ≡ length (now points) ⌝ ∗ ⌜ length (now marks) ≡ length (now points) ⌝ }
-    ensures { λ _. ⌜ now (marks .exit) ≡ walked (near-limit (now (settings .entry) .units)) (now (points .entry)) (now (marks .entry)) ⌝ }
+    ensures value { λ _. ⌜ now (marks .exit) ≡ walked (near-limit (now (settings .entry) .units)) (now (points .entry)) (now (marks .entry)) ⌝ }
+    ensures round { λ _. ⌜ Walked-round (near-limit (now (settings .entry) .units)) (now (points .entry)) (now (marks .exit)) ⌝ }
+    ensures vectors { λ _. ⌜ Sums-are-vectors (now (points .entry)) ⌝ }
 {
     let near_limit = settings.near_limit();
     let start = find_start(points, near_limit);

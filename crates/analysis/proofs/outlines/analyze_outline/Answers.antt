@@ -1,6 +1,6 @@
 use native.Mathlib.Omega.{arith}
 use borrow.Author.Needs.{needs}
-use Rattle.analysis.proofs.Tilings.{turn, written-none, written-more, written-all}
+use Rattle.analysis.proofs.Tilings.{turn, written-none, written-more, written-all, stand-alone}
 use Rattle.analysis.proofs.outlines.analyze_outline.Needs as need
 
 pub loop-contour-holds : need.loop-contour-holds
@@ -19,5 +19,6 @@ loop-contour-again g c =
 
 pub returns : need.returns
 returns g c =
-    written-all _ _ (c .args .points .now) (c .args .contours .now) (c .loop-contour .out) (c .loop-contour .contour-index)
-    (c .loop-contour-test .left) (omega arith) (c .loop-contour .inv)
+    let v = written-all _ _ (c .args .points .now) (c .args .contours .now) (c .loop-contour .out) (c .loop-contour .contour-index)
+    (c .loop-contour-test .left) (omega arith) (c .loop-contour .inv) in
+    record { value = v; alone = stand-alone _ _ (c .args .contours .now) (c .args .points .now) _ (c .pre .0 .0) v }

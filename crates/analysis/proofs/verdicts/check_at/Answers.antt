@@ -1,19 +1,17 @@
 use native.Mathlib.Omega.{arith}
 use borrow.Author.Needs.{needs}
 use lib.ListN.{length}
-use Rattle.walk.specs.Marks.{blank}
-use Rattle.std.proofs.shelf.Elements.{all-getD}
-use Rattle.analysis.specs.Passes.{Linked}
+use Rattle.analysis.proofs.Links.{linked-one}
 use Rattle.analysis.proofs.Judges.{checked-step}
 use Rattle.analysis.proofs.verdicts.check_at.Needs as need
 
 pub judge-verdict-requires : need.judge-verdict-requires
 judge-verdict-requires g c κs =
-    (search needs, all-getD (Linked (length (c .args .points .now))) (c .args .marks .now) (c .args .i) blank (omega arith) (search needs))
+    (search needs, linked-one (length (c .args .points .now)) (c .args .i) (c .args .marks .now) (omega arith) (omega arith) (search needs))
 
 pub apply-verdict-requires : need.apply-verdict-requires
 apply-verdict-requires g c κs =
-    let k = all-getD (Linked (length (c .args .points .now))) (c .args .marks .now) (c .args .i) blank (omega arith) (search needs) in
+    let k = linked-one (length (c .args .points .now)) (c .args .i) (c .args .marks .now) (omega arith) (omega arith) (search needs) in
     (omega arith, (omega (arith, k .0), omega (arith, k .1)))
 
 pub returns : need.returns

@@ -38,19 +38,20 @@ unfolding analysed records
 alone F N b ps = shift-all N b ps (marks-of F N ps) _
 
 -- a record, field by field
-pub record-is : (N b : ℕ) (ps : List DrawnPoint) (ms : List Mark) (i : ℕ) (x y : ℤ) (n : Bool) (next prev : ℕ)
-    → x ≡ getD ps i origin .x → y ≡ getD ps i origin .y → n ≡ is-near N ps i → next ≡ following (length ps) i → prev ≡ preceding (length ps) i
+pub record-is : (N b : ℕ) (ps : List DrawnPoint) (ms : List Mark) (i : ℕ) (x y : ℤ) (n : Bool) (next prev next-ix prev-ix : ℕ)
+    → x ≡ getD ps i origin .x → y ≡ getD ps i origin .y → n ≡ is-near N ps i
+    → next ≡ following (length ps) i → prev ≡ preceding (length ps) i → next-ix ≡ b + next → prev-ix ≡ b + prev
     → record {
       flags = record { kind = getD ps i origin .kind; near = n; «weak_interpolation» = getD ms i blank .weak };
       x = x;
       y = y;
       «in_dir» = getD ms i blank .«in_dir»;
       «out_dir» = getD ms i blank .«out_dir»;
-      «next_ix» = b + next;
-      «prev_ix» = b + prev;
+      «next_ix» = next-ix;
+      «prev_ix» = prev-ix;
     } ≡ record-at N b ps ms i
 unfolding record-at
-record-is N b ps ms i x y n next prev e₁ e₂ e₃ e₄ e₅ = simp (e₁, e₂, e₃, e₄, e₅)
+record-is N b ps ms i x y n next prev next-ix prev-ix e₁ e₂ e₃ e₄ e₅ e₆ e₇ = simp (e₆, e₇, e₁, e₂, e₃, e₄, e₅)
 
 -- the parts of a contour's analysis, one after another
 pub whole : (F : ℤ → ℤ → ℤ → ℤ → Bool) (N N′ b n : ℕ) (ps : List DrawnPoint) (m₀ m₁ m₂ m₃ : List Mark) (out : List Point)

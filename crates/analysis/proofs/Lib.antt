@@ -1,6 +1,4 @@
-pub mod Ands
-pub mod Bypasses
-pub mod Judges
+pub mod Passing
 pub mod Fills
 pub mod Links
 pub mod Products

@@ -32,14 +32,12 @@ pub linked-one : (n i : ℕ) (ms : List Mark) → length ms ≡ n → i < n → 
 linked-one n i ms e in′ a = all-getD (Linked n) ms i blank (omega arith) a
 
 good-at : (n i : ℕ) (f : Mark → Mark) (ms : List Mark) → ((m : Mark) → Linked n m → Linked n (f m)) → i < n → Good n ms → Good n (at i f ms)
-unfolding at
 good-at n i f ms keeps in′ g = record {
   long = length-at i f ms ∙ g .long;
   all = all-set (Linked n) ms i _ (keeps _ (linked-one n i ms (g .long) in′ (g .all))) (g .all);
 }
 
 good-join : (n a b : ℕ) (ms : List Mark) → a < n → b < n → Good n ms → Good n (join a b ms)
-unfolding join
 good-join n a b ms in-a in-b g =
     good-at n b (with-v a) _ (λ m k. (k .0, in-a)) in-b (good-at n a (with-u b) ms (λ m k. (in-b, k .1)) in-a g)
 
@@ -71,13 +69,11 @@ good-checked F ps i ms in′ g =
 
 -- the walk
 good-stepped : (n i j : ℕ) (l : Leg) (ms : List Mark) → i < n → j < n → Good n ms → Good n (stepped i j l ms)
-unfolding stepped
 good-stepped n i j l ms in-i in-j g =
     good-at n j (with-weak (not (l .end))) _ (λ m k. k) in-j
     (good-at n j (with-in (l .dir)) _ (λ m k. k) in-j (good-at n i (with-out (l .dir)) ms (λ m k. k) in-i g))
 
 good-dealt : (n e i j : ℕ) (l : Leg) (ms : List Mark) → e < n → i < n → j < n → Good n ms → Good n (dealt e i j l ms)
-unfolding dealt
 good-dealt n e i j l ms in-e in-i in-j g =
     let s = good-stepped n i j l ms in-i in-j g in
     cond-both (l .end) _ _ (Good n) (λ _. good-join n e j _ in-e in-j s) (λ _. s)

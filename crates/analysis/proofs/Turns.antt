@@ -21,7 +21,6 @@ entered-is a ps s₀ x₀ y₀ x y e b c d f = area-same _ _ _ _ _ _ e (b ∙ d)
 
 pub turned-is : (a : Area) (p : DrawnPoint) (s₀ x₀ y₀ s t x y : ℤ) → s₀ ≡ s → x₀ ≡ x → y₀ ≡ y → s ≡ a .sum +ℤ t → t ≡ term (a .x) (a .y) x y → x ≡ p .x → y ≡ p .y
     → record { sum = s₀; x = x₀; y = y₀ } ≡ turned a p
-unfolding turned
 turned-is a p s₀ x₀ y₀ s t x y e₁ e₂ e₃ e₄ e₅ e₆ e₇ =
     let u : t ≡ term (a .x) (a .y) (p .x) (p .y) = e₅ ∙ ap (λ (v : ℤ). term (a .x) (a .y) v y) e₆ ∙ ap (λ (v : ℤ). term (a .x) (a .y) (p .x) v) e₇ in
     area-same _ _ _ _ _ _ (e₁ ∙ e₄ ∙ ap (λ (v : ℤ). a .sum +ℤ v) u) (e₂ ∙ e₆) (e₃ ∙ e₇)
@@ -34,7 +33,7 @@ unfoldable pub left-of : Area → List DrawnPoint → ℤ
 left-of a ps = a .sum +ℤ terms (a .x) (a .y) ps
 
 turned-left : (a : Area) (p : DrawnPoint) (ps : List DrawnPoint) → left-of (turned a p) ps ≡ left-of a (p ∷ ps)
-unfolding left-of turned terms
+unfolding left-of terms
 turned-left a p ps = grouped (a .sum) (term (a .x) (a .y) (p .x) (p .y)) (terms (p .x) (p .y) ps)
 
 pub turns-more : (ps : List DrawnPoint) (i : ℕ) (d : DrawnPoint) (a b : Area) → i < length ps → b ≡ turned a (getD ps i d)
@@ -45,7 +44,7 @@ turns-more ps i d a b in′ e =
     cc
 
 pub turns-none : (a b : Area) (ps : List DrawnPoint) → b ≡ entered a ps → left-of b ps ≡ a .sum +ℤ contour-area ps
-unfolding left-of contour-area
+unfolding left-of
 turns-none a b ps e = ap (λ (x : Area). x .sum +ℤ terms (x .x) (x .y) ps) e
 
 no-more : (a : Area) → left-of a [] ≡ a .sum

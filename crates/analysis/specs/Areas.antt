@@ -26,7 +26,7 @@ abbrev pub last-of : List DrawnPoint → DrawnPoint
 last-of ps = getD ps (length ps - 1) origin
 
 -- the terms of a contour, whose first point follows its last
-unfoldable pub contour-area : List DrawnPoint → ℤ
+abbrev pub contour-area : List DrawnPoint → ℤ
 contour-area ps = terms (last-of ps .x) (last-of ps .y) ps
 
 -- the terms of all contours
@@ -43,5 +43,5 @@ abbrev pub entered : Area → List DrawnPoint → Area
 entered a ps = record { sum = a .sum; x = last-of ps .x; y = last-of ps .y }
 
 -- and takes in the next
-unfoldable pub turned : Area → DrawnPoint → Area
+abbrev pub turned : Area → DrawnPoint → Area
 turned a p = record { sum = a .sum +ℤ term (a .x) (a .y) (p .x) (p .y); x = p .x; y = p .y }

@@ -47,10 +47,10 @@ abbrev pub bypass : ℕ → Mark → List Mark → List Mark
 bypass i m ms = join (m .v) (m .u) (weaken i ms)
 
 -- both negative or both not
-unfoldable pub same-sign : ℤ → ℤ → Bool
+abbrev pub same-sign : ℤ → ℤ → Bool
 same-sign a b = cond (ltZ a (pos 0)) (ltZ b (pos 0)) (not (ltZ b (pos 0)))
 
-unfoldable pub same-quadrant : Step → Step → Bool
+abbrev pub same-quadrant : Step → Step → Bool
 same-quadrant s t = same-sign (s .dx) (t .dx) && same-sign (s .dy) (t .dy)
 
 -- First pass: points not weak with both directions None
@@ -58,7 +58,7 @@ abbrev pub is-open : Mark → Bool
 is-open m = not (m .weak) && undirected m
 
 -- whose two vectors lie in one quadrant.
-unfoldable pub is-straight : List DrawnPoint → ℕ → Mark → Bool
+abbrev pub is-straight : List DrawnPoint → ℕ → Mark → Bool
 is-straight ps i m = is-open m && same-quadrant (inward ps i m) (outward ps i m)
 
 unfoldable pub simplified-at : List DrawnPoint → ℕ → List Mark → List Mark
@@ -84,7 +84,7 @@ abbrev pub judged-corner : (ℤ → ℤ → ℤ → ℤ → Bool) → List Drawn
 judged-corner F ps i m = cond (flat-at F (inward ps i m) (outward ps i m)) Bypass Keep
 
 -- A control turns weak, and nothing else is done for it.
-unfoldable pub judged : (ℤ → ℤ → ℤ → ℤ → Bool) → List DrawnPoint → ℕ → Mark → Verdict
+abbrev pub judged : (ℤ → ℤ → ℤ → ℤ → Bool) → List DrawnPoint → ℕ → Mark → Verdict
 judged F ps i m =
     cond (m .weak) Keep
     (cond (not (on-curve (getD ps i origin .kind))) Weaken

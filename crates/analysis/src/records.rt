@@ -26,6 +26,14 @@ fn is_near(points: &[DrawnPoint], near_limit: u32, i: usize) -> bool
     step_at(points, i).taxicab_length() < near_limit
 }
 
+// The index in the outline of point `i` of a contour whose first point has the index `base`.
+fn index_at(base: usize, i: usize) -> u16
+    requires { ⌜ base + i < 2048 ⌝ }
+    ensures { λ r. ⌜ r ≡ base + i ⌝ }
+{
+    (base + i) as u16
+}
+
 fn record_at(near_limit: u32, base: usize, points: &[DrawnPoint], marks: &[Mark], i: usize) -> Point
     requires { ⌜ i < length (now points) ⌝ ∗ ⌜ length (now marks) ≡ length (now points) ⌝ ∗ ⌜ base + length (now points) ≤ 2048 ⌝ }
     ensures { λ r. ⌜ r ≡ record-at «near_limit» base (now (points .entry)) (now (marks .entry)) i ⌝ }
@@ -43,8 +51,8 @@ fn record_at(near_limit: u32, base: usize, points: &[DrawnPoint], marks: &[Mark]
         y: point.y,
         in_dir: mark.in_dir,
         out_dir: mark.out_dir,
-        next_ix: (base + next_of(points.len(), i)) as u16,
-        prev_ix: (base + prev_of(points.len(), i)) as u16,
+        next_ix: index_at(base, next_of(points.len(), i)),
+        prev_ix: index_at(base, prev_of(points.len(), i)),
     }
 }
 

@@ -68,12 +68,12 @@ ends-come n s (l ∷ ls) x h =
 round-end : (n s e : ℕ) (l : Leg) (ls : List Leg) (ms : List Mark) → l .end ≡ true
     → round n s e (l ∷ ls) ms
     ≡ round n s (place n s (length ls)) ls (join e (place n s (length ls)) (stepped (place n s (suc (length ls))) (place n s (length ls)) l ms))
-unfolding round dealt
+unfolding round
 round-end n s e l ls ms end = simp end
 
 round-on : (n s e : ℕ) (l : Leg) (ls : List Leg) (ms : List Mark) → l .end ≡ false
     → round n s e (l ∷ ls) ms ≡ round n s e ls (stepped (place n s (suc (length ls))) (place n s (length ls)) l ms)
-unfolding round dealt
+unfolding round
 round-on n s e l ls ms end = simp end
 
 -- where a list is split

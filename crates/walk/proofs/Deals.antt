@@ -1,25 +1,13 @@
 -- One turn of the dealing.
-use mathlib.Core.Path.{_≡_, refl, sym, ap, _∙_}
-use mathlib.Core.Bool.{Bool, true, false, cond}
+use mathlib.Core.Path.{_≡_, refl}
 use mathlib.Core.List.{List, [], _∷_}
 use Prim.Native.Nat.{ℕ, _+_, _<_, _≤_}
-use native.Mathlib.Omega.{arith}
 use lib.ListN.{length, drop, getD}
 use Rattle.std.proofs.shelf.Lists.{drop-more, drop-all}
-use Rattle.std.proofs.shelf.Tests.{cond-true, cond-false}
 use Rattle.walk.specs.declared.legs.Leg.{Leg}
 use Rattle.walk.specs.declared.marks.Mark.{Mark}
 use Rattle.walk.specs.Steps.{following}
-use Rattle.walk.specs.Marks.{join, stepped, last-end, dealt, dealt-all}
-
-pub dealt-end : (e i j : ℕ) (l : Leg) (ms xs ys : List Mark) → l .end ≡ true
-    → xs ≡ stepped i j l ms → ys ≡ join e j xs → ys ≡ dealt e i j l ms
-unfolding dealt
-dealt-end e i j l ms xs ys end a b = b ∙ ap (join e j) a ∙ sym (cond-true (l .end) _ _ end)
-
-pub dealt-on : (e i j : ℕ) (l : Leg) (ms xs : List Mark) → l .end ≡ false → xs ≡ stepped i j l ms → xs ≡ dealt e i j l ms
-unfolding dealt
-dealt-on e i j l ms xs end a = a ∙ sym (cond-false (l .end) _ _ end)
+use Rattle.walk.specs.Marks.{join, last-end, dealt, dealt-all}
 
 dealt-cons : (n s e i : ℕ) (l : Leg) (ls : List Leg) (ms : List Mark)
     → dealt-all n s e i (l ∷ ls) ms ≡ dealt-all n s (last-end e (following n i) l) (following n i) ls (dealt e i (following n i) l ms)

@@ -34,28 +34,23 @@ dealt-round n s e (l ∷ ls) ms in-s fits =
 
 -- lengths
 pub length-at : (i : ℕ) (f : Mark → Mark) (ms : List Mark) → length (at i f ms) ≡ length ms
-unfolding at
 length-at i f ms = length-set ms i _
 
 pub length-join : (a b : ℕ) (ms : List Mark) → length (join a b ms) ≡ length ms
-unfolding join
 length-join a b ms = length-at b (with-v a) (at a (with-u b) ms) ∙ length-at a (with-u b) ms
 
 pub length-stepped : (i j : ℕ) (l : Leg) (ms : List Mark) → length (stepped i j l ms) ≡ length ms
-unfolding stepped
 length-stepped i j l ms =
     length-at j (with-weak (not (l .end))) (at j (with-in (l .dir)) (at i (with-out (l .dir)) ms))
     ∙ length-at j (with-in (l .dir)) (at i (with-out (l .dir)) ms) ∙ length-at i (with-out (l .dir)) ms
 
 pub length-dealt : (e i j : ℕ) (l : Leg) (ms : List Mark) → length (dealt e i j l ms) ≡ length ms
-unfolding dealt
 length-dealt e i j l ms =
     cond-both (l .end) _ _ (λ (xs : List Mark). length xs ≡ length ms)
     (λ _. length-join e j (stepped i j l ms) ∙ length-stepped i j l ms) (λ _. length-stepped i j l ms)
 
 -- one mark is changed
 pub at-same : (i : ℕ) (f : Mark → Mark) (ms : List Mark) → i < length ms → mark (at i f ms) i ≡ f (mark ms i)
-unfolding at
 at-same i f ms in′ = getD-set-same ms i (f (getD ms i blank)) blank in′
 
 at-past : (i : ℕ) (f : Mark → Mark) (ms : List Mark) → length ms ≤ i → mark (at i f ms) i ≡ mark ms i
@@ -64,7 +59,6 @@ at-past i f ms out =
     getD-past (at i f ms) i blank (omega arith) ∙ sym (getD-past ms i blank out)
 
 at-other : (i : ℕ) (f : Mark → Mark) (ms : List Mark) (x : ℕ) → (x ≡ i → ⊥) → mark (at i f ms) x ≡ mark ms x
-unfolding at
 at-other i f ms x ne = getD-set-other ms i x _ blank ne
 
 -- A part p of the mark of point x stays, unless it is the part that changes there.
@@ -82,18 +76,15 @@ module _ {X : Type 0} (p : Mark → X) (x : ℕ) where
 
   pub join-keeps : (a b : ℕ) (ms : List Mark) → (a ≡ x → (k : ℕ) (m : Mark) → p (with-u k m) ≡ p m) → (b ≡ x → (k : ℕ) (m : Mark) → p (with-v k m) ≡ p m)
       → p (mark (join a b ms) x) ≡ p (mark ms x)
-  unfolding join
   join-keeps a b ms u v =
       at-keeps b (with-v a) (at a (with-u b) ms) (λ h. v h a) ∙ at-keeps a (with-u b) ms (λ h. u h b)
 
 -- what joining writes
 pub join-u : (a b : ℕ) (ms : List Mark) → a < length ms → mark (join a b ms) a .u ≡ b
-unfolding join
 join-u a b ms in-a =
     at-keeps (λ m. m .u) a b (with-v a) (at a (with-u b) ms) (λ _ _. refl) ∙ ap (λ (m : Mark). m .u) (at-same a (with-u b) ms in-a)
 
 pub join-v : (a b : ℕ) (ms : List Mark) → b < length ms → mark (join a b ms) b .v ≡ a
-unfolding join
 join-v a b ms in-b =
     let long = length-at a (with-u b) ms in
     ap (λ (m : Mark). m .v) (at-same b (with-v a) (at a (with-u b) ms) (omega arith))
@@ -108,7 +99,6 @@ pub record Still {X : Type 0} (p : Mark → X) : Type 0 where
 module _ {X : Type 0} (p : Mark → X) (x : ℕ) where
   stepped-keeps : (i j : ℕ) (l : Leg) (ms : List Mark) → (i ≡ x → (d : Direction) (m : Mark) → p (with-out d m) ≡ p m) → (j ≡ x → Still p)
       → p (mark (stepped i j l ms) x) ≡ p (mark ms x)
-  unfolding stepped
   stepped-keeps i j l ms out still =
       at-keeps p x j (with-weak (not (l .end))) (at j (with-in (l .dir)) (at i (with-out (l .dir)) ms)) (λ h. still h .weak (not (l .end)))
       ∙ at-keeps p x j (with-in (l .dir)) (at i (with-out (l .dir)) ms) (λ h. still h .into (l .dir))
@@ -117,7 +107,6 @@ module _ {X : Type 0} (p : Mark → X) (x : ℕ) where
   dealt-keeps : (e i j : ℕ) (l : Leg) (ms : List Mark) → (i ≡ x → (d : Direction) (m : Mark) → p (with-out d m) ≡ p m) → (j ≡ x → Still p)
       → (e ≡ x → (k : ℕ) (m : Mark) → p (with-u k m) ≡ p m)
       → p (mark (dealt e i j l ms) x) ≡ p (mark ms x)
-  unfolding dealt
   dealt-keeps e i j l ms out still u =
       let s = stepped-keeps i j l ms out still in
       cond-both (l .end) _ _ (λ (xs : List Mark). p (mark xs x) ≡ p (mark ms x))
@@ -150,13 +139,11 @@ module _ (e i j : ℕ) (l : Leg) (ms : List Mark) where
   -- joining ends changes only u and v
   dealt-as-stepped : {X : Type 0} (p : Mark → X) (x : ℕ) → ((k : ℕ) (m : Mark) → p (with-u k m) ≡ p m) → ((k : ℕ) (m : Mark) → p (with-v k m) ≡ p m)
       → p (mark (dealt e i j l ms) x) ≡ p (mark (stepped i j l ms) x)
-  unfolding dealt
   dealt-as-stepped p x u v =
       cond-both (l .end) _ _ (λ (xs : List Mark). p (mark xs x) ≡ p (mark (stepped i j l ms) x))
       (λ _. join-keeps p x e j (stepped i j l ms) (λ _. u) (λ _. v)) (λ _. refl)
 
   pub dealt-in : j < length ms → mark (dealt e i j l ms) j .«in_dir» ≡ l .dir
-  unfolding stepped
   dealt-in in-j =
       let m₁ = at i (with-out (l .dir)) ms in
       let long = length-at i (with-out (l .dir)) ms in
@@ -165,7 +152,6 @@ module _ (e i j : ℕ) (l : Leg) (ms : List Mark) where
       ∙ ap (λ (m : Mark). m .«in_dir») (at-same j (with-in (l .dir)) m₁ (omega arith))
 
   pub dealt-weak : j < length ms → mark (dealt e i j l ms) j .weak ≡ not (l .end)
-  unfolding stepped
   dealt-weak in-j =
       let m₁ = at i (with-out (l .dir)) ms in
       let long₁ = length-at i (with-out (l .dir)) ms in
@@ -174,7 +160,6 @@ module _ (e i j : ℕ) (l : Leg) (ms : List Mark) where
       ∙ ap (λ (m : Mark). m .weak) (at-same j (with-weak (not (l .end))) (at j (with-in (l .dir)) m₁) (omega arith))
 
   pub dealt-out : i < length ms → mark (dealt e i j l ms) i .«out_dir» ≡ l .dir
-  unfolding stepped
   dealt-out in-i =
       let m₁ = at i (with-out (l .dir)) ms in
       dealt-as-stepped (λ m. m .«out_dir») i (λ _ _. refl) (λ _ _. refl)

@@ -54,7 +54,6 @@ vector-cuts N ps a i (suc m) =
 
 -- what is left of a sum that began at a and has come to j
 rest-is : (N a j : ℕ) (ps : List DrawnPoint) → rest-of N (vector ps a j) ≡ vector ps (last-end a j (leg-of N (vector ps a j))) j
-unfolding rest-of leg-of
 rest-is N a j ps =
     elim (cases-bool (ltb (taxicab (vector ps a j)) N)) [
       | inl y ↦ simp y
@@ -70,7 +69,7 @@ cuts-from N ps a i (suc m) s h =
     let t : plus s (leaving ps i) ≡ vector ps a j =
     ap (λ (v : Step). plus v (leaving ps i)) h ∙ across (getD ps a origin) (getD ps i origin) (getD ps j origin) in
     let more = cuts-from N ps (last-end a j (leg-of N (vector ps a j))) j m (rest-of N (vector ps a j)) (rest-is N a j ps) in
-    rw t (ap (λ (ls : List Leg). leg-of N (vector ps a j) ∷ ls) more)
+    ap (λ (u : Step). leg-of N u ∷ cuts N (rest-of N u) (steps-from ps j m)) t ∙ ap (λ (ls : List Leg). leg-of N (vector ps a j) ∷ ls) more
 
 pub cuts-vectors : (N : ℕ) (ps : List DrawnPoint) (s m : ℕ) → cuts N no-step (steps-from ps s m) ≡ vector-cuts N ps s s m
 cuts-vectors N ps s m = cuts-from N ps s s m no-step (nowhere (getD ps s origin))
@@ -84,11 +83,9 @@ length-cuts N ps a i (suc m) =
 
 -- a sum goes on or ends
 leg-on : (N : ℕ) (v : Step) → ltb (taxicab v) N ≡ true → leg-of N v ≡ no-leg
-unfolding leg-of
 leg-on N v y = cond-true _ _ _ y
 
 leg-end : (N : ℕ) (v : Step) → ltb (taxicab v) N ≡ false → leg-of N v ≡ record { dir = direction (v .dx) (v .dy); end = true }
-unfolding leg-of
 leg-end N v z = cond-false _ _ _ z
 
 -- Sums on the way round from s, with m steps left.

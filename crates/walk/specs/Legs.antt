@@ -15,11 +15,11 @@ abbrev pub no-leg : Leg
 no-leg = record { dir = None; end = false }
 
 -- Where a sum has come to s: it goes on while |x| + |y| is below N, and else ends with its direction,
-unfoldable pub leg-of : ℕ → Step → Leg
+abbrev pub leg-of : ℕ → Step → Leg
 leg-of N s = cond (ltb (taxicab s) N) no-leg (record { dir = direction (s .dx) (s .dy); end = true })
 
 -- and a new sum begins there.
-unfoldable pub rest-of : ℕ → Step → Step
+abbrev pub rest-of : ℕ → Step → Step
 rest-of N s = cond (ltb (taxicab s) N) s no-step
 
 -- the steps ds, added up from s on

@@ -32,16 +32,16 @@ abbrev pub with-in : Direction → Mark → Mark
 with-in d m = record { weak = m .weak; «in_dir» = d; «out_dir» = m .«out_dir»; u = m .u; v = m .v }
 
 -- the marks with that of point i changed by f
-unfoldable pub at : ℕ → (Mark → Mark) → List Mark → List Mark
+abbrev pub at : ℕ → (Mark → Mark) → List Mark → List Mark
 at i f ms = set ms i (f (getD ms i blank))
 
 -- point a takes b as its u, and point b takes a as its v
-unfoldable pub join : ℕ → ℕ → List Mark → List Mark
+abbrev pub join : ℕ → ℕ → List Mark → List Mark
 join a b ms = at b (with-v a) (at a (with-u b) ms)
 
 -- A step from point i to point j has its sum's direction, which is the out_dir of i and the in_dir of j;
 -- j is weak unless it is the end of the sum.
-unfoldable pub stepped : ℕ → ℕ → Leg → List Mark → List Mark
+abbrev pub stepped : ℕ → ℕ → Leg → List Mark → List Mark
 stepped i j l ms = at j (with-weak (not (l .end))) (at j (with-in (l .dir)) (at i (with-out (l .dir)) ms))
 
 -- the last end, once this step has come to j
@@ -49,7 +49,7 @@ abbrev pub last-end : ℕ → ℕ → Leg → ℕ
 last-end e j l = cond (l .end) j e
 
 -- an end is joined to the end e before it
-unfoldable pub dealt : ℕ → ℕ → ℕ → Leg → List Mark → List Mark
+abbrev pub dealt : ℕ → ℕ → ℕ → Leg → List Mark → List Mark
 dealt e i j l ms = cond (l .end) (join e j (stepped i j l ms)) (stepped i j l ms)
 
 -- The steps ls from point i on, round a contour of n points that is entered at s; e is the last end so far, at first s.

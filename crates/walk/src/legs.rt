@@ -47,13 +47,7 @@ fn cut(sum: Step, near_limit: u32) -> (Leg, Step)
     ensures bound { λ r. ⌜ taxicab (r .1) ≤ «near_limit» ⌝ }
 {
     if sum.taxicab_length() < near_limit {
-        (
-            Leg {
-                dir: Direction::None,
-                end: false,
-            },
-            sum,
-        )
+        (Leg::blank(), sum)
     } else {
         let dir = Direction::new(sum.dx, sum.dy);
         (Leg { dir, end: true }, Step { dx: 0, dy: 0 })

@@ -64,6 +64,14 @@ fn deal_leg(marks: &mut [Mark], last: usize, from: usize, to: usize, leg: Leg) -
     }
 }
 
+// After the last end comes the start again. A start that is itself the last end gets itself as u and v.
+fn close_chain(marks: &mut [Mark], last: usize, start: usize)
+    requires { ⌜ last < length (now marks) ⌝ ∗ ⌜ start < length (now marks) ⌝ }
+    ensures { λ _. ⌜ now (marks .exit) ≡ join last start (now (marks .entry)) ⌝ }
+{
+    join_ends(marks, last, start);
+}
+
 // Writes directions, weak marks and the chain of ends, once round the contour from `start`.
 pub fn deal_legs(legs: &[Leg], start: usize, marks: &mut [Mark])
     requires { ⌜ start < length (now marks) ⌝ }
@@ -77,6 +85,5 @@ pub fn deal_legs(legs: &[Leg], start: usize, marks: &mut [Mark])
         last = deal_leg(marks, last, at, to, *leg);
         at = to;
     }
-    // after the last end comes the start again
-    join_ends(marks, last, start);
+    close_chain(marks, last, start);
 }

@@ -49,7 +49,7 @@ impl Step {
         }
     }
 
-    pub fn add(self, step: Step) -> Step
+    pub(crate) fn add(self, step: Step) -> Step
         requires { ⌜ taxicab self ≤ 2 ^ 16 ⌝ ∗ ⌜ natAbs (step .dx) ≤ 2 ^ 16 ⌝ ∗ ⌜ natAbs (step .dy) ≤ 2 ^ 16 ⌝ }
         ensures value { λ r. ⌜ r ≡ plus self step ⌝ }
         ensures bound { λ r. ⌜ taxicab r ≤ 2 ^ 18 ⌝ }

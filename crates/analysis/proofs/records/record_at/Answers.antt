@@ -1,4 +1,3 @@
-use mathlib.Core.Path.{_≡_}
 use borrow.Author.Needs.{needs}
 use mir.Syntax.{w16}
 use mir.Val.{SFits}
@@ -13,5 +12,5 @@ returns c =
     let ps = c .args .points .now in
     let fx : SFits w16 (getD ps (c .args .i) origin .x) = search needs in
     let fy : SFits w16 (getD ps (c .args .i) origin .y) = search needs in
-    record-is _ _ (c .args .points .now) (c .args .marks .now) (c .args .i) _ _ _ _ _ (toZ-ofZ w16 _ fx) (toZ-ofZ w16 _ fy)
-    (c .is-near-near .ensures) (c .next-of .ensures .value) (c .prev-of .ensures .value)
+    record-is _ _ (c .args .points .now) (c .args .marks .now) (c .args .i) _ _ _ _ _ _ _ (toZ-ofZ w16 _ fx) (toZ-ofZ w16 _ fy)
+    (c .is-near-near .ensures) (c .next-of .ensures .value) (c .prev-of .ensures .value) (c .index-at .ensures) (c .index-at-2 .ensures)

@@ -3,7 +3,7 @@ use borrow.Author.Needs.{needs}
 use mathlib.Core.Path.{_≡_}
 use lib.ListN.{length}
 use Rattle.analysis.proofs.Links.{linked-one}
-use Rattle.analysis.proofs.Bypasses.{simplified-yes, simplified-no}
+use Rattle.analysis.proofs.Passing.{simplified-yes, simplified-no}
 use Rattle.analysis.proofs.topology.simplify_at.Needs as need
 
 pub is-straight-requires : need.is-straight-requires

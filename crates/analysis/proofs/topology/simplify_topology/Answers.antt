@@ -3,7 +3,7 @@ use mathlib.Core.Path.{_≡_, _∙_, ap}
 use Prim.Native.Nat.{ℕ}
 use lib.ListN.{length}
 use Rattle.analysis.specs.Passes.{passed, simplified, simplified-at}
-use Rattle.analysis.proofs.Bypasses.{passed-none, passed-more}
+use Rattle.analysis.proofs.Passing.{passed-none, passed-more}
 use Rattle.analysis.proofs.Links.{good-simplified}
 use Rattle.analysis.proofs.topology.simplify_topology.Needs as need
 

@@ -2,7 +2,7 @@ use native.Mathlib.Omega.{arith}
 use borrow.Author.Needs.{needs}
 use lib.ListN.{length}
 use Rattle.analysis.proofs.Links.{linked-one}
-use Rattle.analysis.proofs.Judges.{checked-step}
+use Rattle.analysis.proofs.Passing.{checked-step}
 use Rattle.analysis.proofs.verdicts.check_at.Needs as need
 
 pub judge-verdict-requires : need.judge-verdict-requires

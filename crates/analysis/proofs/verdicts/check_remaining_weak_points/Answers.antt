@@ -3,7 +3,7 @@ use mathlib.Core.Path.{_≡_, _∙_, ap}
 use Prim.Native.Nat.{ℕ}
 use lib.ListN.{length}
 use Rattle.analysis.specs.Passes.{passed, checked, checked-at}
-use Rattle.analysis.proofs.Bypasses.{passed-none, passed-more}
+use Rattle.analysis.proofs.Passing.{passed-none, passed-more}
 use Rattle.analysis.proofs.Links.{good-checked}
 use Rattle.analysis.proofs.verdicts.check_remaining_weak_points.Needs as need
 

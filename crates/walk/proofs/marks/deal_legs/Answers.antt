@@ -16,5 +16,5 @@ loop-leg-again c = (
 pub returns : need.returns
 returns c =
     dealt-done _ _ (c .loop-leg .last) (c .loop-leg .at) (c .loop-leg .leg-index) (c .args .legs .now) (c .loop-leg .marks) _
-    (c .loop-leg-test .left) (c .join-ends .ensures)
+    (c .loop-leg-test .left) (c .close-chain .ensures)
     ∙ c .loop-leg .inv .2

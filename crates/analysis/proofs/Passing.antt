@@ -1,28 +1,17 @@
--- One step of the first pass, and one more point of either pass.
+-- One step of either pass, and one more point.
 use mathlib.Core.Path.{_≡_, refl, sym, ap, _∙_}
 use mathlib.Core.Bool.{Bool, true, false}
 use mathlib.Core.List.{List}
 use Prim.Native.Nat.{ℕ, _+_}
 use native.Mathlib.Numerals.{add-one}
+use lib.IntN.{ℤ}
 use lib.ListN.{getD}
 use Rattle.std.proofs.shelf.Tests.{cond-true, cond-false}
 use Rattle.outline.specs.declared.points.DrawnPoint.{DrawnPoint}
-use Rattle.walk.specs.declared.steps.Step.{Step}
 use Rattle.walk.specs.declared.marks.Mark.{Mark}
 use Rattle.walk.specs.Marks.{blank}
-use Rattle.analysis.specs.Passes.{passed, inward, outward, same-quadrant, is-open, is-straight, bypass, simplified-at}
-use Rattle.analysis.proofs.Ands.{and-goes, and-stops}
-
-pub straight-yes : (ps : List DrawnPoint) (i : ℕ) (m : Mark) (o r : Bool) (a b : Step)
-    → o ≡ true → o ≡ is-open m → a ≡ inward ps i m → b ≡ outward ps i m → r ≡ same-quadrant a b → r ≡ is-straight ps i m
-unfolding is-straight
-straight-yes ps i m o r a b e₁ e₂ e₃ e₄ e₅ =
-    let q : r ≡ same-quadrant (inward ps i m) (outward ps i m) = cc in
-    and-goes _ _ o r e₁ e₂ q
-
-pub straight-no : (ps : List DrawnPoint) (i : ℕ) (m : Mark) (o : Bool) → o ≡ false → o ≡ is-open m → false ≡ is-straight ps i m
-unfolding is-straight
-straight-no ps i m o e₁ e₂ = sym e₁ ∙ and-stops _ _ o e₁ e₂
+use Rattle.analysis.specs.declared.verdicts.Verdict.{Verdict}
+use Rattle.analysis.specs.Passes.{passed, is-straight, bypass, simplified-at, judged, applied, checked-at}
 
 -- one step of the first pass
 pub simplified-yes : (ps : List DrawnPoint) (i : ℕ) (ms xs : List Mark) (r : Bool)
@@ -34,6 +23,12 @@ pub simplified-no : (ps : List DrawnPoint) (i : ℕ) (ms : List Mark) (r : Bool)
     → r ≡ false → r ≡ is-straight ps i (getD ms i blank) → ms ≡ simplified-at ps i ms
 unfolding simplified-at
 simplified-no ps i ms r e₁ e₂ = sym (cond-false _ _ _ (sym e₂ ∙ e₁))
+
+-- one step of the second pass
+pub checked-step : (F : ℤ → ℤ → ℤ → ℤ → Bool) (ps : List DrawnPoint) (i : ℕ) (ms xs : List Mark) (r : Verdict)
+    → r ≡ judged F ps i (getD ms i blank) → xs ≡ applied r i (getD ms i blank) ms → xs ≡ checked-at F ps i ms
+unfolding checked-at
+checked-step F ps i ms xs r e a = a ∙ ap (λ (v : Verdict). applied v i (getD ms i blank) ms) e
 
 -- a pass: one more point
 pub passed-more : (f : ℕ → List Mark → List Mark) (i : ℕ) (ms xs ys : List Mark)

@@ -48,7 +48,7 @@ greatest-both t (more u v) =
     ap (λ (x : Position). greater x (v .point .position)) (greatest-both t u)
     ∙ greater-assoc (greatest-of t) (greatest-of u) (v .point .position)
 
-last-both : (t u : Taken) → last-of (both t u) ≡ last-of u
+pub last-both : (t u : Taken) → last-of (both t u) ≡ last-of u
 last-both t (lone v) = refl
 last-both t (more u v) = refl
 

@@ -6,3 +6,9 @@ pub mod Turns
 pub mod Bridge
 pub mod Contours
 pub mod Runs
+pub mod Extents
+pub mod Merges
+pub mod Walked
+pub mod Alone
+pub mod Within
+pub mod Begins

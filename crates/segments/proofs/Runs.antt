@@ -6,7 +6,7 @@ use Prim.Native.Nat.{ℕ, zero, suc, _+_, _-_, _<_, _≤_}
 use native.Mathlib.Omega.{arith}
 use lib.ListN.{length, getD, drop}
 use Rattle.std.proofs.shelf.Lists.{drop-more, drop-all, getD-map, length-map}
-use Rattle.std.proofs.shelf.Tests.{cond-true, cond-false, and-left, and-right, and-from, both-ways}
+use Rattle.std.proofs.shelf.Tests.{cond-true, cond-false, and-left, and-right, and-from, and-parts, both-ways}
 use Rattle.outline.specs.declared.points.Point.{Point}
 use Rattle.segments.specs.declared.measures.AxisPoint.{AxisPoint}
 use Rattle.segments.specs.declared.measures.Dimension.{Dimension}
@@ -61,6 +61,14 @@ module _ (dim : Dimension) where
       go : (b : Bool) → run-of dim (q ∷ ps) < length (q ∷ ps) → cond b 0 (run-of dim (q ∷ ps) + 1) < length (p ∷ q ∷ ps)
       go true lt = omega arith
       go false lt = omega arith
+
+  -- the walk begins at one of the points
+  pub starts-in : (ps : List AxisPoint) → 0 < length ps → start-of dim ps < length ps
+  starts-in ps lt = go (head-on dim ps && last-on dim ps) (λ e. run-in ps (and-parts (head-on dim ps) (last-on dim ps) e .1))
+    where
+      go : (b : Bool) → (b ≡ true → run-of dim ps < length ps) → cond b (run-of dim ps) 0 < length ps
+      go true h = h refl
+      go false h = lt
 
   module _ (ps : List Point) where
     at : (k : ℕ) (d : Point) → k < length ps → on dim (getD (map (seen dim) ps) k (seen dim d)) ≡ on-line dim (getD ps k d .«out_dir»)

@@ -9,3 +9,7 @@ pub mod Starts
 pub mod Building
 pub mod Stretches
 pub mod Readings
+pub mod Told
+pub mod Rows
+pub mod Laws
+pub mod Tried

@@ -5,6 +5,7 @@ use mathlib.Core.Path.{_≡_}
 use Prim.Native.Nat.{ℕ, _+_}
 use lib.ListN.{take, drop}
 use Rattle.std.specs.Orderings.{When}
+use Rattle.std.specs.shelf.Lists.{All}
 use Rattle.segments.specs.declared.measures.AxisPoint.{AxisPoint}
 use Rattle.segments.specs.declared.measures.Dimension.{Dimension}
 use Rattle.segments.specs.Measures.{on-line}
@@ -35,3 +36,20 @@ run-of dim (p ∷ ps) = cond (all-on dim (p ∷ ps)) 0 (run-of dim ps + 1)
 -- the first point; if it and its predecessor, the last point, are both on the line, the earliest point of that run
 abbrev pub start-of : Dimension → List AxisPoint → ℕ
 start-of dim ps = cond (head-on dim ps && last-on dim ps) (run-of dim ps) 0
+
+-- the last of these, if there is one
+abbrev pub Last : {X : Type 0} → (X → Type 0) → List X → Type 0
+Last P [] = Unit {0}
+Last P (x ∷ []) = P x
+Last P (x ∷ y ∷ xs) = Last P (y ∷ xs)
+
+-- in words: the walk begins at the first point, unless that and the last point are both on the line;
+-- then every point from the beginning on is on the line, and the one before it, if there is one, is not
+abbrev pub Begins : Dimension → List AxisPoint → ℕ → Type 0
+Begins dim ps s =
+    When (head-on dim ps && last-on dim ps)
+    (All (λ p. on dim p ≡ true) (drop s ps) × Last (λ p. on dim p ≡ false) (take s ps))
+    (s ≡ 0)
+
+abbrev pub Starts-told : Type 0
+Starts-told = (dim : Dimension) (ps : List AxisPoint) → Begins dim ps (start-of dim ps)

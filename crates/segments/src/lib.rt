@@ -1,6 +1,7 @@
 // Segments of an outline along one axis.
 mod closing;
 mod faults;
+mod laws;
 mod majors;
 mod measures;
 mod readings;
@@ -12,6 +13,9 @@ mod walks;
 
 pub use faults::BuildFault;
 pub use faults::BuildFaultPartialEq;
+pub use laws::contours_stand_alone;
+pub use laws::segments_stand;
+pub use laws::tried_stands;
 pub use majors::major_direction;
 pub use measures::Coordinate;
 pub use measures::Dimension;

@@ -4,6 +4,7 @@ ghost use mathlib.Core.Path.{_≡_};
 ghost use Prim.Native.Nat.{_-_, _≤_};
 ghost use lib.ListN.{length, take};
 ghost use Rattle.segments.specs.Building.{Answer, built-of};
+ghost use Rattle.segments.specs.Laws.{Within};
 ghost use Rattle.segments.specs.Measures.{seen};
 ghost use Rattle.segments.specs.Readings.{Inside, points-of, blanks, Filled, Read};
 use crate::faults::BuildFault;
@@ -81,7 +82,8 @@ pub fn build_segments(
     requires points { ⌜ length (now points) ≤ 65536 ⌝ }
     requires contours { ⌜ Inside (length (now points)) (now contours) ⌝ }
     requires table { ⌜ 1001 ≤ length (now table) ⌝ }
-    ensures { λ r. ⌜ Read dim (now (settings .entry) .units) (now (points .entry)) (now (contours .entry)) (now (table .entry)) (now (table .exit)) r ⌝ }
+    ensures read { λ r. ⌜ Read dim (now (settings .entry) .units) (now (points .entry)) (now (contours .entry)) (now (table .entry)) (now (table .exit)) r ⌝ }
+    ensures within { λ r. ⌜ Within (now (contours .entry)) (now (table .exit)) r ⌝ }
 {
     match fill(points, contours, dim, settings.units(), table) {
         Ok(count) => {

@@ -1,20 +1,26 @@
 -- A choice is the first of the lowest below 32000, and a link a choice that is returned.
 use mathlib.Core.Path.{_≡_, refl, sym, ap, subst, _∙_}
-use mathlib.Core.Logic.{_⊎_, inl, inr, ⊎-elim}
+use mathlib.Core.Logic.{_⊎_, ⊎-elim}
 use mathlib.Core.Bool.{Bool, true, false, cond, _||_}
-use Prim.Native.Nat.{ℕ, zero, suc, _+_, _<_, _≤_}
+use Prim.Native.Nat.{ℕ, zero, suc, _<_, _≤_}
 use native.Mathlib.Omega.{arith}
-use lib.Dec.{ltb, eqb}
-use Rattle.std.proofs.shelf.Tests.{lt-ltb, le-ltb, eqb-true, eq-eqb, cases-eq, cases-lt, cases-bool, both-ways, cond-true, cond-false, or-left, or-right, or-from}
+use lib.Dec.{ltb}
+use Rattle.std.proofs.shelf.Tests.{lt-ltb, le-ltb, eqb-true, eq-eqb, cases-lt, cases-bool, both-ways, cond-true, cond-false, or-left, or-right, or-from}
 use Rattle.std.specs.declared.option.Option.{Option}
 use Rattle.std.specs.declared.option.Option.the-variants.{Some, None}
 use Rattle.std.specs.Slices.{Ranks}
 use Rattle.std.proofs.shelf.Ways.{tells}
 use Rattle.std.proofs.shelf.Bests.{ranks-by-number}
-use Rattle.linking.specs.Choices.{worth, able, ranked, ahead, chosen}
+use Rattle.linking.specs.Choices.{able, ranked, ahead, chosen}
 use Rattle.linking.specs.Links.{picks, returned, paired, link-of, serif-by, serif-of}
-use Rattle.linking.specs.Laws.{FirstBest}
 use Rattle.linking.proofs.Settling.{cases-option}
+
+-- a choice in any order: among n, j is the first of the best of those able
+pub record FirstBest (ok : ℕ → Bool) (lt : ℕ → ℕ → Bool) (n j : ℕ) : Type 0 where
+  pub inside : j < n
+  pub able : ok j ≡ true
+  pub best : (k : ℕ) → k < n → ok k ≡ true → lt k j ≡ false
+  pub first : (k : ℕ) → k < j → ok k ≡ true → lt j k ≡ true
 
 -- an order that ranks, in which whoever is before an able one is able
 pub record Order (ok : ℕ → Bool) (lt : ℕ → ℕ → Bool) : Type 0 where

@@ -1,20 +1,21 @@
 -- The finished table, and its law.
 use mathlib.Core.Path.{_≡_, refl, sym, ap, subst, _∙_, fun-ext}
 use mathlib.Core.Logic.{_⊎_, inl, inr, ⊎-elim}
-use mathlib.Core.Bool.{Bool, true, false, cond}
+use mathlib.Core.Bool.{cond}
 use mathlib.Core.List.{List}
-use Prim.Native.Nat.{ℕ, _+_, _<_, _≤_}
+use Prim.Native.Nat.{ℕ, _<_, _≤_}
 use native.Mathlib.Omega.{arith}
 use lib.Dec.{ltb}
 use lib.ListN.{length}
-use Rattle.std.proofs.shelf.Tests.{lt-ltb, le-ltb, ltb-false, cases-lt, cases-bool, cond-true, cond-false}
+use Rattle.std.proofs.shelf.Tests.{lt-ltb, le-ltb, ltb-false, cases-lt, cond-true, cond-false}
 use Rattle.std.proofs.shelf.Counted.{fill-by-all}
 use Rattle.std.specs.declared.option.Option.{Option}
 use Rattle.std.specs.declared.option.Option.the-variants.{Some, None}
 use Rattle.segments.specs.declared.tables.Segment.{Segment}
 use Rattle.linking.specs.declared.rules.Rule.{Rule}
-use Rattle.linking.specs.Choices.{at, blank, holding, score, able, ranked, worth, choice, entry, Shows}
-use Rattle.linking.specs.Links.{among, link-of, serif-of, settled, held-choice, Unsettled, finished, linked-table}
+use Rattle.linking.specs.Choices.{at, blank, holding, score, able, ranked, worth, choice}
+use Rattle.linking.specs.Links.{among, link-of, serif-of, finished, linked-table}
+use Rattle.linking.specs.Passes.{entry, Shows, settled, held-choice, Unsettled}
 use Rattle.linking.specs.Laws.{PartnersAt, Chooses, ChoosesNone, Stems, Scores, Linked, Serifs, SameUnlinked, Linking}
 use Rattle.linking.proofs.Steps.{shows-like, shows-through}
 use Rattle.linking.proofs.Settling.{cases-option}

@@ -1,28 +1,27 @@
 -- The rule's test and score say what the words say.
-use mathlib.Core.Path.{_≡_, refl, sym, ap, subst, _∙_}
+use mathlib.Core.Path.{_≡_, refl, sym, ap, _∙_}
 use mathlib.Core.Logic.{_⊎_, inl, inr, ⊎-elim}
-use mathlib.Core.Bool.{Bool, true, false, cond, _&&_}
+use mathlib.Core.Bool.{true, false, cond, _&&_}
 use mathlib.Core.List.{List}
-use Prim.Native.Nat.{ℕ, zero, suc, _+_, _<_, _≤_}
+use Prim.Native.Nat.{ℕ, _<_, _≤_}
 use native.Mathlib.Omega.{arith}
-use lib.Dec.{ltb, leb, eqb}
+use lib.Dec.{leb, eqb}
 use lib.IntN.{ℤ, pos, negsuc, _-ℤ_}
 use lib.Signed.{ltZ, _<ℤ_, _≤ℤ_}
 use borrow.Author.Differences.{lt-true}
 use Rattle.std.specs.Numbers.{minZ, maxZ}
 use Rattle.std.proofs.shelf.Signed.{ints}
-use Rattle.std.proofs.shelf.Tests.{ltb-true, ltb-false, le-ltb, leb-true, lt-ltb, le-leb, eqb-true, eq-eqb, ne-eqb, cases-lt, cases-bool, both-ways, cond-true, cond-false, and-parts, and-from}
-use Rattle.std.specs.declared.option.Option.{Option}
-use Rattle.std.specs.declared.option.Option.the-variants.{Some, None}
+use Rattle.std.proofs.shelf.Tests.{ltb-true, ltb-false, le-ltb, leb-true, lt-ltb, le-leb, eqb-true, eq-eqb, cases-lt, cases-bool, both-ways, cond-true, cond-false, and-parts, and-from}
 use Rattle.outline.specs.declared.directions.Direction.{Direction}
 use Rattle.outline.specs.declared.directions.Direction.the-variants as dir
 use Rattle.outline.specs.declared.directions.Direction.the-variants.{Right, Left, Up, Down}
 use Rattle.segments.specs.declared.tables.Segment.{Segment}
 use Rattle.linking.specs.declared.rules.Rule.{Rule}
 use Rattle.linking.specs.Rules.{clip, overlap, faces, meets, cost, price}
-use Rattle.outline.specs.Directions.{code, back, same, opposite, Opposite}
+use Rattle.outline.specs.Directions.{code, same, opposite, Opposite}
 use Rattle.linking.specs.Choices.{at, score, able, ranked}
-use Rattle.linking.specs.Laws.{Partners, PartnersAt, Chooses, FirstBest}
+use Rattle.linking.specs.Laws.{Partners, PartnersAt, Chooses}
+use Rattle.linking.proofs.Chosen.{FirstBest}
 use Rattle.linking.proofs.Steps.{same-not-opposed}
 
 -- ---- directions

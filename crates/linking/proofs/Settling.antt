@@ -1,20 +1,21 @@
 -- The last pass: links that are not returned go, in index order.
-use mathlib.Core.Path.{_≡_, refl, sym, ap, subst, _∙_, fun-ext}
-use mathlib.Core.Logic.{_⊎_, inl, inr, ⊎-elim, _≢_}
-use mathlib.Core.Bool.{Bool, true, false, cond, _||_}
+use mathlib.Core.Path.{_≡_, refl, sym, ap, subst, _∙_}
+use mathlib.Core.Logic.{_⊎_, inl, inr, ⊎-elim}
+use mathlib.Core.Bool.{true, false, cond, _||_}
 use mathlib.Core.List.{List}
-use Prim.Native.Nat.{ℕ, zero, suc, _+_, _<_, _≤_}
+use Prim.Native.Nat.{ℕ, _+_, _<_, _≤_}
 use native.Mathlib.Omega.{arith}
 use lib.Dec.{ltb, eqb}
 use lib.ListN.{length, set}
-use Rattle.std.proofs.shelf.Tests.{lt-ltb, le-ltb, eqb-true, eq-eqb, ne-eqb, cases-eq, cases-lt, cases-bool, both-ways, cond-true, cond-false, or-left, or-right, or-from}
+use Rattle.std.proofs.shelf.Tests.{lt-ltb, le-ltb, eq-eqb, ne-eqb, cases-eq, cases-lt, cases-bool, both-ways, cond-true, cond-false, or-left, or-right, or-from}
 use Rattle.std.proofs.shelf.Ways.{tells}
 use Rattle.std.specs.declared.option.Option.{Option}
 use Rattle.std.specs.declared.option.Option.the-variants.{Some, None}
 use Rattle.segments.specs.declared.tables.Segment.{Segment}
-use Rattle.linking.specs.Choices.{at, holding, Shows}
+use Rattle.linking.specs.Choices.{at, holding}
 use Rattle.linking.proofs.Steps.{put, shows-set, shows-like}
-use Rattle.linking.specs.Links.{picks, among, returned, paired, link-of, serif-by, serif-of, settled, held-choice, Unsettled, released, settling}
+use Rattle.linking.specs.Links.{picks, returned, paired, link-of, serif-by}
+use Rattle.linking.specs.Passes.{Shows, settled, held-choice, Unsettled, released, settling}
 
 -- an option, with what it is
 pub cases-option : (o : Option ℕ) → (o ≡ None) ⊎ ((t : ℕ) × (o ≡ Some t))

@@ -1,17 +1,17 @@
 -- A pass over the table, step by step.
 use mathlib.Core.Path.{_≡_, refl, sym, ap, subst, _∙_, fun-ext}
-use mathlib.Core.Logic.{_⊎_, inl, inr, ⊎-elim, _≢_}
+use mathlib.Core.Logic.{_⊎_, ⊎-elim}
 use mathlib.Core.Bool.{Bool, true, false, cond, _&&_}
 use mathlib.Core.List.{List}
 use Prim.Native.Nat.{ℕ, zero, suc, _+_, _<_, _≤_}
 use native.Mathlib.Omega.{arith}
 use native.Mathlib.Numerals.{add-one}
 use lib.Dec.{ltb, leb, eqb}
-use lib.ListN.{length, getD, set}
+use lib.ListN.{length, set}
 use lib.Signed.{ltZ}
 use Rattle.std.proofs.shelf.Signed.{ints}
 use Rattle.std.proofs.shelf.Lists.{length-set, getD-set-same, getD-set-other}
-use Rattle.std.proofs.shelf.Tests.{lt-ltb, le-ltb, ltb-true, ltb-false, eqb-true, eqb-false, eq-eqb, ne-eqb, cases-eq, cases-lt, cases-bool, both-ways, cond-true, cond-false, and-right, and-left, and-from}
+use Rattle.std.proofs.shelf.Tests.{le-ltb, ltb-true, eqb-true, eq-eqb, ne-eqb, cases-eq, cases-lt, cases-bool, both-ways, cond-true, cond-false}
 use Rattle.std.proofs.shelf.Ways.{tells}
 use Rattle.std.specs.declared.option.Option.{Option}
 use Rattle.std.specs.declared.option.Option.the-variants.{Some, None}
@@ -21,8 +21,9 @@ use Rattle.outline.specs.declared.directions.Direction.the-variants.{Right, Lef
 use Rattle.segments.specs.declared.tables.Segment.{Segment}
 use Rattle.linking.specs.declared.rules.Rule.{Rule}
 use Rattle.linking.specs.Rules.{overlap, meets, cost, pair-score, price}
-use Rattle.outline.specs.Directions.{code, back, same, opposite}
-use Rattle.linking.specs.Choices.{at, blank, holding, score, worth, ranks-before, ahead, able, ranked, chosen, choice, entry, passed, stage, Shows, offered, exchanged}
+use Rattle.outline.specs.Directions.{code, same, opposite}
+use Rattle.linking.specs.Choices.{at, blank, holding, score, worth, ranks-before, ahead, able, ranked, chosen, choice}
+use Rattle.linking.specs.Passes.{entry, passed, stage, Shows, offered, exchanged}
 
 -- ---- stores
 

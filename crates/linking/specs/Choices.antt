@@ -1,10 +1,9 @@
 -- What each segment of a table chooses. g tells the segment at an index.
-use mathlib.Core.Path.{_≡_}
 use mathlib.Core.Bool.{Bool, false, cond}
 use mathlib.Core.List.{List}
-use Prim.Native.Nat.{ℕ, zero, suc, _+_, _<_, _≤_}
-use lib.Dec.{ltb, eqb}
-use lib.ListN.{length, getD, set}
+use Prim.Native.Nat.{ℕ, zero, suc}
+use lib.Dec.{ltb}
+use lib.ListN.{getD}
 use lib.IntN.{pos}
 use Rattle.std.specs.declared.option.Option.{Option}
 use Rattle.std.specs.declared.option.Option.the-variants.{Some, None}
@@ -60,32 +59,3 @@ chosen before (suc p) = cond (before p (chosen before p)) (Some p) (chosen befor
 -- what k chooses among the first p
 abbrev pub choice : Rule → (ℕ → Segment) → ℕ → ℕ → Option ℕ
 choice r g p k = chosen (ahead (able (score r g k)) (ranked (score r g k))) p
-
--- entry k once it has met the first p: its choice among them as its link, and that choice's score
-abbrev pub entry : Rule → (ℕ → Segment) → ℕ → ℕ → Segment
-entry r g p k = holding (g k) (worth (score r g k) (choice r g p k)) (choice r g p k) None
-
--- how many entry k has met when the passes below i and, of pass i, the steps below j are done
-abbrev pub passed : Bool → ℕ → ℕ → ℕ → ℕ → ℕ
-passed major n i j k = cond major (cond (ltb k i) n (cond (eqb k i) j 0)) (cond (ltb k j) (i + 1) i)
-
--- entry k at that time
-abbrev pub stage : Rule → (ℕ → Segment) → ℕ → ℕ → ℕ → ℕ → Segment
-stage r g n i j k = entry r g (passed (same (g k .dir) (r .major)) n i j k) k
-
--- t has F k at each k below n, and is xs elsewhere
-pub record Shows (xs : List Segment) (n : ℕ) (F : ℕ → Segment) (t : List Segment) : Type 0 where
-  pub len : length t ≡ length xs
-  pub front : (k : ℕ) → k < n → at t k ≡ F k
-  pub rest : (k : ℕ) → n ≤ k → at t k ≡ at xs k
-
--- a segment that is offered a partner stores the one that ranks before the other
-abbrev pub offered : Segment → ℕ → ℕ → Segment
-offered g to s = holding g (cond (ranks-before s (g .score)) s (g .score)) (cond (ranks-before s (g .score)) (Some to) (g .link)) (g .serif)
-
--- two segments that meet: partners are offered each other
-abbrev pub exchanged : List Segment → ℕ → ℕ → Option ℕ → List Segment
-exchanged xs i j None = xs
-exchanged xs i j (Some s) =
-    let ys = set xs i (offered (at xs i) j s) in
-    set ys j (offered (at ys j) i s)

@@ -1,6 +1,5 @@
 -- The laws of a linked table, in the subject's words. ys is what linking the first n of xs leaves.
 use mathlib.Core.Path.{_≡_}
-use mathlib.Core.Bool.{Bool, true, false}
 use mathlib.Core.Logic.{_⊎_}
 use mathlib.Core.List.{List}
 use Prim.Native.Nat.{ℕ, _<_, _≤_}
@@ -8,7 +7,6 @@ use lib.IntN.{ℤ, pos, _-ℤ_}
 use lib.ListN.{length}
 use lib.Signed.{_<ℤ_, _≤ℤ_}
 use Rattle.std.specs.Numbers.{minZ, maxZ}
-use Rattle.std.specs.declared.option.Option.{Option}
 use Rattle.std.specs.declared.option.Option.the-variants.{Some, None}
 use Rattle.outline.specs.Directions.{Opposite}
 use Rattle.segments.specs.declared.tables.Segment.{Segment}
@@ -96,10 +94,3 @@ pub record Linking (r : Rule) (n : ℕ) (xs ys : List Segment) : Type 0 where
   pub scores : Scores r n xs ys
   pub serifs : Serifs r n xs ys
   pub keeps : Keeps n xs ys
-
--- a choice in any order: among n, j is the first of the best of those able
-pub record FirstBest (ok : ℕ → Bool) (lt : ℕ → ℕ → Bool) (n j : ℕ) : Type 0 where
-  pub inside : j < n
-  pub able : ok j ≡ true
-  pub best : (k : ℕ) → k < n → ok k ≡ true → lt k j ≡ false
-  pub first : (k : ℕ) → k < j → ok k ≡ true → lt j k ≡ true

@@ -1,8 +1,7 @@
 -- Links and serifs, from what each segment chose. ch tells the choice of the segment at an index.
-use mathlib.Core.Path.{_≡_}
 use mathlib.Core.Bool.{Bool, false, cond, _||_}
 use mathlib.Core.List.{List, map}
-use Prim.Native.Nat.{ℕ, _<_}
+use Prim.Native.Nat.{ℕ}
 use lib.Dec.{ltb, eqb}
 use lib.ListN.{length}
 use Rattle.std.specs.Iters.{counting}
@@ -26,6 +25,7 @@ abbrev pub returned : (ℕ → Option ℕ) → ℕ → Option ℕ → Bool
 returned ch k None = false
 returned ch k (Some t) = picks (ch t) k
 
+-- k's choice is returned
 abbrev pub paired : (ℕ → Option ℕ) → ℕ → Bool
 paired ch k = returned ch k (ch k)
 
@@ -41,27 +41,6 @@ serif-by ch k (Some t) = cond (paired ch t || ltb k t) (ch t) None
 -- a linked segment has no serif
 abbrev pub serif-of : (ℕ → Option ℕ) → ℕ → Option ℕ
 serif-of ch k = cond (paired ch k) None (serif-by ch k (ch k))
-
-abbrev pub settled : (ℕ → Option ℕ) → (ℕ → Segment) → ℕ → Segment
-settled ch g k = holding (g k) (g k .score) (link-of ch k) (serif-of ch k)
-
--- what a table's own links choose
-abbrev pub held-choice : ℕ → List Segment → ℕ → Option ℕ
-held-choice n xs = among n (λ k. at xs k .link)
-
--- the first n have links below n, and no serifs
-pub record Unsettled (n : ℕ) (xs : List Segment) : Type 0 where
-  pub within : (k t : ℕ) → k < n → at xs k .link ≡ Some t → t < n
-  pub none : (k : ℕ) → k < n → at xs k .serif ≡ None
-
--- one turn of the last pass, at entry i with the link l
-abbrev pub released : (ℕ → Segment) → ℕ → Option ℕ → Segment
-released g i None = g i
-released g i (Some t) = cond (picks (g t .link) i) (g i) (holding (g i) (g i .score) None (g t .link))
-
--- the table when the turns below i are done
-abbrev pub settling : ℕ → List Segment → ℕ → ℕ → Segment
-settling n xs i k = cond (ltb k i) (settled (held-choice n xs) (at xs) k) (at xs k)
 
 -- entry k of the linked table, among n segments
 abbrev pub finished : Rule → (ℕ → Segment) → ℕ → ℕ → Segment

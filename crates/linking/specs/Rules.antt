@@ -1,5 +1,4 @@
 -- The linking rule, over two segments (af_latin_hints_link_segments).
-use mathlib.Core.Path.{_≡_}
 use mathlib.Core.Bool.{Bool, cond, _&&_}
 use Prim.Native.Nat.{ℕ, _+_, _-_, _*_, _/_, max}
 use lib.Dec.{ltb, leb, eqb}
@@ -9,6 +8,8 @@ use Rattle.std.specs.Numbers.{minZ, maxZ}
 use Rattle.std.specs.declared.option.Option.{Option}
 use Rattle.std.specs.declared.option.Option.the-variants.{Some, None}
 use Rattle.outline.specs.declared.directions.Direction.{Direction}
+use Rattle.outline.specs.declared.directions.Direction.the-variants as dir
+use Rattle.outline.specs.declared.directions.Direction.the-variants.{Right, Left, Up, Down}
 use Rattle.outline.specs.declared.units.Settings.{Settings}
 use Rattle.outline.specs.Directions.{same, opposite}
 use Rattle.segments.specs.declared.tables.Segment.{Segment}
@@ -28,6 +29,14 @@ rule-of u w m = record { threshold = overlap-threshold u; weight = length-weight
 
 abbrev pub rule-by : Settings → Direction → Rule
 rule-by s m = rule-of (s .units) (s .width) m
+
+-- the other way along a direction's line
+abbrev pub reverse : Direction → Direction
+reverse dir.None = dir.None
+reverse Right = Left
+reverse Left = Right
+reverse Up = Down
+reverse Down = Up
 
 -- a difference, and 0 for a negative one
 abbrev pub clip : ℤ → ℕ

@@ -7,7 +7,8 @@ ghost use mathlib.Core.Path.{_≡_};
 ghost use Prim.Native.Nat.{_+_, _<_, _≤_};
 ghost use lib.ListN.{length, set};
 ghost use Rattle.std.specs.declared.option.Option.the-variants.{Some, None};
-ghost use Rattle.linking.specs.Choices.{at as entry-at, ranks-before, holding as spec-holding, offered, exchanged, entry as choice-entry, stage, Shows};
+ghost use Rattle.linking.specs.Choices.{at as entry-at, ranks-before, holding as spec-holding};
+ghost use Rattle.linking.specs.Passes.{offered, exchanged, entry as choice-entry, stage, Shows};
 
 // The segment with another score, link and serif.
 pub fn holding(segment: Segment, score: u32, link: Option<u16>, serif: Option<u16>) -> Segment

@@ -10,8 +10,8 @@ ghost use mathlib.Core.Path.{_≡_};
 ghost use Prim.Native.Nat.{_<_, _≤_};
 ghost use lib.Signed.{ltZ};
 ghost use Rattle.std.specs.Numbers.{minZ, maxZ};
-ghost use Rattle.outline.specs.Directions.{same};
-ghost use Rattle.linking.specs.Rules.{away, overlap as spec-overlap, demerit as spec-demerit, faces as spec-faces, pair-score};
+ghost use Rattle.outline.specs.Directions.{same, opposite};
+ghost use Rattle.linking.specs.Rules.{reverse, away, overlap as spec-overlap, demerit as spec-demerit, faces as spec-faces, pair-score};
 
 // A distance equal to the standard stem width, in the steps that demerits are counted by.
 const ONE_WIDTH: u32 = 1024;
@@ -24,6 +24,26 @@ pub fn has_direction(segment: &Segment, dir: Direction) -> bool
     ensures { λ r. ⌜ r ≡ same (now (segment .entry) .dir) dir ⌝ }
 {
     segment.dir == dir
+}
+
+// The other way along a direction's line; None has no other.
+fn reversed(dir: Direction) -> Direction
+    ensures { λ r. ⌜ r ≡ reverse dir ⌝ }
+{
+    match dir {
+        Direction::None => Direction::None,
+        Direction::Right => Direction::Left,
+        Direction::Left => Direction::Right,
+        Direction::Up => Direction::Down,
+        Direction::Down => Direction::Up,
+    }
+}
+
+// What `is_opposite` tells, by the reverse of the major direction, which a pass then finds only once.
+fn is_reverse(dir: Direction, major: Direction) -> bool
+    ensures { λ r. ⌜ r ≡ opposite major dir ⌝ }
+{
+    dir != Direction::None && dir == reversed(major)
 }
 
 fn is_beyond(a: Position, b: Position) -> bool
@@ -97,7 +117,7 @@ impl Rule {
     fn faces(&self, a: &Segment, b: &Segment) -> bool
         ensures { λ r. ⌜ r ≡ spec-faces (now (self .entry)) (now (a .entry)) (now (b .entry)) ⌝ }
     {
-        has_direction(a, self.major) && self.major.is_opposite(b.dir) && is_beyond(a.pos, b.pos)
+        has_direction(a, self.major) && is_reverse(b.dir, self.major) && is_beyond(a.pos, b.pos)
     }
 
     // The score of a with b, if they are partners.

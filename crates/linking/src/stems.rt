@@ -7,8 +7,9 @@ ghost use mathlib.Core.Path.{_≡_};
 ghost use Prim.Native.Nat.{ℕ, _<_, _≤_};
 ghost use lib.ListN.{length, set};
 ghost use Rattle.std.specs.declared.option.Option.the-variants.{Some, None};
-ghost use Rattle.linking.specs.Choices.{at as entry-at, Shows};
-ghost use Rattle.linking.specs.Links.{picks as spec-picks, linked-table, released, settled, held-choice, Unsettled};
+ghost use Rattle.linking.specs.Choices.{at as entry-at};
+ghost use Rattle.linking.specs.Links.{picks as spec-picks, linked-table};
+ghost use Rattle.linking.specs.Passes.{Shows, released, settled, held-choice, Unsettled};
 ghost use Rattle.linking.specs.Laws.{Linking};
 
 fn picks(link: Option<u16>, k: u16) -> bool

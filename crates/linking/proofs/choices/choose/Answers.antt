@@ -1,10 +1,10 @@
 use mathlib.Core.Path.{_≡_, refl, sym, ap, subst, _∙_}
-use Prim.Native.Nat.{ℕ, _+_, _<_, _≤_}
+use Prim.Native.Nat.{ℕ, _+_}
 use native.Mathlib.Omega.{arith}
-use lib.ListN.{length}
 use Rattle.std.specs.declared.option.Option.the-variants.{None}
-use Rattle.linking.specs.Choices.{Shows, stage, at, entry, holding}
-use Rattle.linking.proofs.Steps.{shows-like, shows-self, shows-through, stage-of, stage-start, stage-end, bare}
+use Rattle.linking.specs.Choices.{at, holding}
+use Rattle.linking.specs.Passes.{Shows, stage, entry}
+use Rattle.linking.proofs.Steps.{shows-like, shows-self, shows-through, stage-of, stage-end}
 use Rattle.linking.proofs.choices.choose.Needs as need
 
 pub pass-requires : need.pass-requires

@@ -1,9 +1,10 @@
-use mathlib.Core.Path.{_≡_, refl, sym, ap, subst, _∙_}
-use Prim.Native.Nat.{ℕ, _<_, _≤_}
+use mathlib.Core.Path.{_≡_, ap, subst, _∙_}
+use Prim.Native.Nat.{_<_}
 use native.Mathlib.Omega.{arith}
 use lib.ListN.{length}
 use Rattle.std.specs.declared.option.Option.the-variants.{None}
-use Rattle.linking.specs.Choices.{Shows, holding, at}
+use Rattle.linking.specs.Choices.{holding, at}
+use Rattle.linking.specs.Passes.{Shows}
 use Rattle.linking.proofs.Steps.{shows-none, shows-more}
 use Rattle.linking.proofs.choices.erase.Needs as need
 

@@ -1,5 +1,6 @@
 use Rattle.std.specs.declared.option.Option.the-variants.{None}
-use Rattle.linking.specs.Choices.{Shows, holding, at}
+use Rattle.linking.specs.Choices.{holding, at}
+use Rattle.linking.specs.Passes.{Shows}
 use Rattle.linking.proofs.choices.erase.Given as given
 
 abbrev pub Inv-loop-i : given.InvT-loop-i

@@ -1,9 +1,9 @@
-use mathlib.Core.Path.{_≡_, refl, sym, ap, subst, _∙_}
-use Prim.Native.Nat.{ℕ, _+_, _<_, _≤_}
+use mathlib.Core.Path.{_≡_, sym, ap, subst, _∙_}
+use Prim.Native.Nat.{_+_}
 use native.Mathlib.Omega.{arith}
-use lib.ListN.{length}
 use Rattle.linking.specs.Rules.{pair-score}
-use Rattle.linking.specs.Choices.{Shows, stage, at, exchanged}
+use Rattle.linking.specs.Choices.{at}
+use Rattle.linking.specs.Passes.{Shows, stage, exchanged}
 use Rattle.linking.proofs.Steps.{shows-like, shows-step, skip, stage-row}
 use Rattle.linking.proofs.choices.pass.Needs as need
 

@@ -1,4 +1,5 @@
-use Rattle.linking.specs.Choices.{Shows, stage, at}
+use Rattle.linking.specs.Choices.{at}
+use Rattle.linking.specs.Passes.{Shows, stage}
 use Rattle.linking.proofs.choices.pass.Given as given
 
 abbrev pub Inv-loop-j : given.InvT-loop-j

@@ -1,6 +1,7 @@
 use native.Mathlib.Omega.{arith}
-use Rattle.linking.specs.Choices.{Shows, at}
+use Rattle.linking.specs.Choices.{at}
 use Rattle.linking.specs.Links.{finished}
+use Rattle.linking.specs.Passes.{Shows}
 use Rattle.linking.proofs.Finished.{unsettled, shows-finished, is-linked, linking}
 use Rattle.linking.proofs.stems.link_by_rule.Needs as need
 

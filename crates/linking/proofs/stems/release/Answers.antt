@@ -1,13 +1,13 @@
-use mathlib.Core.Path.{_≡_, sym, ap, _∙_}
-use mathlib.Core.Bool.{cond}
+use mathlib.Core.Path.{sym, ap, _∙_}
 use native.Mathlib.Omega.{arith}
 use Prim.Native.Nat.{_<_}
 use lib.ListN.{set}
 use Rattle.std.proofs.shelf.Lists.{set-getD}
-use Rattle.std.proofs.shelf.Tests.{cond-true, cond-false}
+use Rattle.std.proofs.shelf.Tests.{cond-true}
 use Rattle.linking.specs.Choices.{at, blank, holding}
-use Rattle.linking.specs.Links.{released, picks}
-use Rattle.std.specs.declared.option.Option.the-variants.{Some, None}
+use Rattle.linking.specs.Links.{picks}
+use Rattle.linking.specs.Passes.{released}
+use Rattle.std.specs.declared.option.Option.the-variants.{None}
 use Rattle.linking.proofs.stems.release.Needs as need
 
 pub cast-other : need.cast-other

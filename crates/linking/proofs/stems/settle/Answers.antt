@@ -1,11 +1,10 @@
 use mathlib.Core.Path.{_≡_, sym, ap, subst, _∙_}
-use Prim.Native.Nat.{_<_}
 use native.Mathlib.Omega.{arith}
 use Rattle.std.proofs.shelf.Tests.{cond-false, le-ltb}
 use lib.Dec.{ltb}
 use Rattle.segments.specs.declared.tables.Segment.{Segment}
-use Rattle.linking.specs.Choices.{Shows, at}
-use Rattle.linking.specs.Links.{settled, settling, held-choice}
+use Rattle.linking.specs.Choices.{at}
+use Rattle.linking.specs.Passes.{Shows, settled, settling, held-choice}
 use Rattle.linking.proofs.Steps.{shows-like}
 use Rattle.linking.proofs.Settling.{settle-more, settling-none, settling-all}
 use Rattle.linking.proofs.stems.settle.Needs as need

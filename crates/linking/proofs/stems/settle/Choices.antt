@@ -1,5 +1,4 @@
-use Rattle.linking.specs.Choices.{Shows}
-use Rattle.linking.specs.Links.{settling}
+use Rattle.linking.specs.Passes.{Shows, settling}
 use Rattle.linking.proofs.stems.settle.Given as given
 
 abbrev pub Inv-loop-i : given.InvT-loop-i

@@ -11,9 +11,9 @@ use lib.ListN.{length, getD}
 use Rattle.std.specs.declared.option.Option.{Option}
 use Rattle.std.specs.declared.option.Option.the-variants.{None, Some}
 use Rattle.std.proofs.shelf.Lists.{getD-past, length-map}
-use Rattle.std.proofs.shelf.Tests.{cases-lt, cases-eq, eq-eqb, ne-eqb, lt-ltb, le-ltb}
+use Rattle.std.proofs.shelf.Tests.{cases-lt, cases-eq, eq-eqb, ne-eqb}
 use Rattle.segments.specs.declared.tables.Segment.{Segment}
-use Rattle.card.specs.Stems.{link-at, is-index, stem, sum-below, count-below}
+use Rattle.card.specs.Stems.{link-at, is-index, stem, opens, opens-to, sum-below, count-below}
 
 -- what a test adds to a count
 abbrev pub one : Bool → ℕ
@@ -92,13 +92,9 @@ opens-some ss i j e =
           count-none (length ss) (stem ss i) (λ k l. only k l (λ f. omega arith)) ∙ ap one (sym f)
     ]
 
--- the two ways of the test whether j comes later; k is j, passed on
-pub opens-later : (ss : List Segment) (i j k : ℕ) (r : Bool) → link-at ss i ≡ Some j → i < j → k ≡ j → r ≡ is-index (link-at ss k) i
-    → count-below (length ss) (stem ss i) ≡ one r
-opens-later ss i j k r e l f h =
-    let a = ap (λ (x : Bool). one (x && is-index (link-at ss j) i)) (lt-ltb i j l) in
-    let b = ap (λ (n : ℕ). is-index (link-at ss n) i) f in
-    opens-some ss i j e ∙ (a ∙ sym (ap one (h ∙ b)))
-
-pub opens-earlier : (ss : List Segment) (i j : ℕ) → link-at ss i ≡ Some j → j ≤ i → count-below (length ss) (stem ss i) ≡ 0
-opens-earlier ss i j e g = opens-some ss i j e ∙ ap (λ (x : Bool). one (x && is-index (link-at ss j) i)) (le-ltb i j g)
+-- the entry that opens a stem is in that one only
+pub opens-counts : (ss : List Segment) (i : ℕ) → count-below (length ss) (stem ss i) ≡ one (opens ss i)
+opens-counts ss i = at-link (link-at ss i) refl where
+  at-link : (o : Option ℕ) → link-at ss i ≡ o → count-below (length ss) (stem ss i) ≡ one (opens-to ss i (link-at ss i))
+  at-link None e = opens-none ss i e ∙ sym (ap (λ (o : Option ℕ). one (opens-to ss i o)) e)
+  at-link (Some j) e = opens-some ss i j e ∙ sym (ap (λ (o : Option ℕ). one (opens-to ss i o)) e)

@@ -2,7 +2,6 @@
 use mathlib.Core.List.{List, [], _∷_, _++_}
 use Prim.Native.Nat.{ℕ, suc, _+_}
 use lib.Chars.{codes}
-use Rattle.std.specs.Joined.{joined}
 use Rattle.std.specs.Written.{decimal}
 use Rattle.std.specs.declared.option.Option.{Option}
 use Rattle.outline.specs.declared.orientations.Orientation.{Orientation}
@@ -19,9 +18,9 @@ head-words points contours orientation =
     codes "points" ∷ decimal points ∷ codes "contours" ∷ decimal contours ∷ codes "area" ∷ area-word orientation ∷ []
 
 -- a line for each segment of an axis, numbered from i on
-abbrev pub segment-lines : Dimension → ℕ → List Segment → List (List (List ℕ))
+abbrev pub segment-lines : Dimension → ℕ → List Segment → List ℕ
 segment-lines d i [] = []
-segment-lines d i (s ∷ ss) = segment-words d i s ∷ segment-lines d (suc i) ss
+segment-lines d i (s ∷ ss) = line-of (segment-words d i s) ++ segment-lines d (suc i) ss
 
 -- how many stems
 abbrev pub stem-words : ℕ → List (List ℕ)
@@ -31,15 +30,10 @@ stem-words n = codes "stems" ∷ decimal n ∷ []
 abbrev pub refused-words : ℕ → List (List ℕ)
 refused-words n = codes "refused" ∷ decimal n ∷ []
 
--- lines one after another
-abbrev pub text-of : List (List (List ℕ)) → List ℕ
-text-of ls = joined line-of ls
-
--- the head, the segments of the Horizontal axis, those of the Vertical, the stems of both
-abbrev pub card : ℕ → ℕ → Option Orientation → List Segment → List Segment → List (List (List ℕ))
+-- the head, the segments of the Horizontal axis, those of the Vertical, and the stems of both
+abbrev pub card : ℕ → ℕ → Option Orientation → List Segment → List Segment → List ℕ
 card points contours orientation hs vs =
-    head-words points contours orientation
-    ∷ segment-lines Horizontal 0 hs
+    line-of (head-words points contours orientation)
+    ++ segment-lines Horizontal 0 hs
     ++ segment-lines Vertical 0 vs
-    ++ stem-words (stem-count hs + stem-count vs)
-    ∷ []
+    ++ line-of (stem-words (stem-count hs + stem-count vs))

@@ -21,6 +21,14 @@ is-index (Some k) j = eqb k j
 abbrev pub stem : List Segment → ℕ → ℕ → Bool
 stem ss i j = ltb i j && is-index (link-at ss i) j && is-index (link-at ss j) i
 
+-- entry i is the earlier of a stem: its link is a later entry, whose link is i
+abbrev pub opens-to : List Segment → ℕ → Option ℕ → Bool
+opens-to ss i None = false
+opens-to ss i (Some j) = ltb i j && is-index (link-at ss j) i
+
+abbrev pub opens : List Segment → ℕ → Bool
+opens ss i = opens-to ss i (link-at ss i)
+
 -- f 0 + f 1 + .. up to, and without, f n
 unfoldable pub sum-below : ℕ → (ℕ → ℕ) → ℕ
 sum-below zero f = 0

@@ -2,7 +2,7 @@
 ghost use mathlib.Core.Path.{_≡_};
 ghost use mathlib.Core.List.{[], _∷_, _++_};
 ghost use Prim.Native.Nat.{_+_, _≤_};
-ghost use lib.ListN.{length};
+ghost use lib.ListN.{drop, length};
 ghost use Rattle.std.specs.Results.{Cases};
 ghost use Rattle.std.specs.Written.{decimal};
 ghost use Rattle.card.specs.Held.{text};
@@ -69,6 +69,22 @@ pub fn segment_line(dim: Dimension, index: usize, segment: &Segment) -> Line
     line
 }
 
+// The same, where the index is one that links can name: at most 73 bytes.
+fn short_line(dim: Dimension, index: u16, segment: &Segment) -> Line
+    ensures bytes { λ r. ⌜ text r ≡ line-of (segment-words dim index (now (segment .entry))) ⌝ }
+    ensures short { λ _. ⌜ length (line-of (segment-words dim index (now (segment .entry)))) ≤ 73 ⌝ }
+{
+    segment_line(dim, usize::from(index), segment)
+}
+
+fn put_front(buffer: &mut [u8], bytes: &[u8])
+    requires { ⌜ length (now bytes) ≤ length (now buffer) ⌝ }
+    ensures { λ _. ⌜ now (buffer .exit) ≡ now (bytes .entry) ++ drop (length (now (bytes .entry))) (now (buffer .entry)) ⌝ }
+{
+    let len = bytes.len();
+    buffer[0..len].copy_from_slice(bytes);
+}
+
 // Writes the line of one segment to the front of the buffer, and answers its length.
 pub fn card_line(
     buffer: &mut [u8],
@@ -79,12 +95,11 @@ pub fn card_line(
     ensures cases { λ r. ⌜ Cases r (Written (line-of (segment-words dim index (now (segment .entry)))) (now (buffer .entry)) (now (buffer .exit))) (Refused (now (buffer .entry)) (now (buffer .exit))) ⌝ }
     ensures short { λ _. ⌜ length (line-of (segment-words dim index (now (segment .entry)))) ≤ 73 ⌝ }
 {
-    let line = segment_line(dim, usize::from(index), segment);
+    let line = short_line(dim, index, segment);
     if buffer.len() < LEAST_BUFFER {
         return Err(CardFault::BufferTooShort);
     }
     let bytes = line.as_bytes();
-    let len = bytes.len();
-    buffer[0..len].copy_from_slice(bytes);
-    Ok(len)
+    put_front(buffer, bytes);
+    Ok(bytes.len())
 }

@@ -1,32 +1,37 @@
 // Counting the stems of a finished table.
 ghost use mathlib.Core.Path.{_≡_};
-ghost use mathlib.Core.Bool.{true, cond};
-ghost use Prim.Native.Nat.{_<_, _≤_};
+ghost use Prim.Native.Nat.{_≤_};
 ghost use lib.ListN.{length};
-ghost use Rattle.card.specs.Stems.{count-below, is-index, link-at, stem, stem-count};
+ghost use Rattle.card.specs.Stems.{is-index, link-at, opens, stem-count};
 use segments::Segment;
 
-// Whether entry j of a table stands and has the link i.
-fn links_to(segments: &[Segment], j: usize, i: usize) -> bool
-    ensures { λ r. ⌜ r ≡ is-index (link-at (now (segments .entry)) j) i ⌝ }
+// The link of entry i; none past the table's end.
+fn link_at(segments: &[Segment], i: usize) -> Option<u16>
+    ensures { λ r. ⌜ r ≡ link-at (now (segments .entry)) i ⌝ }
 {
-    if j >= segments.len() {
-        return false;
+    if i < segments.len() {
+        segments[i].link
+    } else {
+        None
     }
-    match segments[j].link {
-        Some(k) => usize::from(k) == i,
+}
+
+// Whether a link is the index j.
+fn is_index(link: Option<u16>, j: usize) -> bool
+    ensures { λ r. ⌜ r ≡ is-index link j ⌝ }
+{
+    match link {
+        Some(k) => usize::from(k) == j,
         None => false,
     }
 }
 
-// Whether entry i is the earlier of a stem. No other stem has it, and only indices below 65,535 have a later one.
+// Whether entry i is the earlier of two that are each other's link.
 fn opens_stem(segments: &[Segment], i: usize) -> bool
-    requires { ⌜ i < length (now segments) ⌝ }
-    ensures value { λ r. ⌜ count-below (length (now (segments .entry))) (stem (now (segments .entry)) i) ≡ cond r 1 0 ⌝ }
-    ensures bound { λ r. ⌜ (r ≡ true → i < 65535) ⌝ }
+    ensures { λ r. ⌜ r ≡ opens (now (segments .entry)) i ⌝ }
 {
-    match segments[i].link {
-        Some(j) => i < usize::from(j) && links_to(segments, usize::from(j), i),
+    match link_at(segments, i) {
+        Some(j) => i < usize::from(j) && is_index(link_at(segments, usize::from(j)), i),
         None => false,
     }
 }
@@ -34,7 +39,7 @@ fn opens_stem(segments: &[Segment], i: usize) -> bool
 // How many pairs of entries are each other's link.
 pub fn stem_count(segments: &[Segment]) -> usize
     ensures value { λ r. ⌜ r ≡ stem-count (now (segments .entry)) ⌝ }
-    ensures bound { λ r. ⌜ r ≤ 65535 ⌝ }
+    ensures bound { λ r. ⌜ r ≤ length (now (segments .entry)) ⌝ }
 {
     let mut count = 0;
     for i in 0..segments.len() {

@@ -9,7 +9,7 @@ ghost use Rattle.std.specs.Vec.{made};
 ghost use Rattle.std.specs.Written.{decimal};
 ghost use Rattle.card.specs.Held.{text};
 ghost use Rattle.card.specs.Lines.{line-of};
-ghost use Rattle.card.specs.Cards.{card, head-words, refused-words, segment-lines, text-of};
+ghost use Rattle.card.specs.Cards.{card, head-words, refused-words, segment-lines};
 use crate::lines::Line;
 use crate::rows::segment_line;
 use crate::stems::stem_count;
@@ -51,7 +51,7 @@ fn count_line(word: &str, n: u64) -> Line
 
 // A line for each segment of one axis.
 fn push_segments(card: &mut String, dim: Dimension, segments: &[Segment]) -> Result<(), AllocError>
-    ensures { λ r. ⌜ made r (λ _. string-bytes (now (card .exit)) ≡ string-bytes (now (card .entry)) ++ text-of (segment-lines dim 0 (now (segments .entry)))) ⌝ }
+    ensures { λ r. ⌜ made r (λ _. string-bytes (now (card .exit)) ≡ string-bytes (now (card .entry)) ++ segment-lines dim 0 (now (segments .entry))) ⌝ }
 {
     for (index, segment) in segments.iter().enumerate() {
         card.push_str(segment_line(dim, index, segment).as_str())?;
@@ -68,7 +68,7 @@ pub fn card_text(
     horizontal: &[Segment],
     vertical: &[Segment],
 ) -> Result<String, AllocError>
-    ensures { λ r. ⌜ made r (λ s. string-bytes s ≡ text-of (card points contours orientation (now (horizontal .entry)) (now (vertical .entry)))) ⌝ }
+    ensures { λ r. ⌜ made r (λ s. string-bytes s ≡ card points contours orientation (now (horizontal .entry)) (now (vertical .entry))) ⌝ }
 {
     let mut text = String::new(heap);
     text.push_str(head_line(points, contours, orientation).as_str())?;
@@ -81,7 +81,7 @@ pub fn card_text(
 
 // What is printed in place of a card that is refused.
 pub fn refused_text(heap: Global, number: u8) -> Result<String, AllocError>
-    ensures { λ r. ⌜ made r (λ s. string-bytes s ≡ text-of (refused-words number ∷ [])) ⌝ }
+    ensures { λ r. ⌜ made r (λ s. string-bytes s ≡ line-of (refused-words number)) ⌝ }
 {
     String::from_str(heap, count_line("refused", u64::from(number)).as_str())
 }

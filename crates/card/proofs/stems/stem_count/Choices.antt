@@ -5,5 +5,4 @@ use Rattle.card.specs.Stems.{count-below, stem, sum-below}
 use Rattle.card.proofs.stems.stem_count.Given as given
 
 abbrev pub Inv-loop-i : given.InvT-loop-i
-Inv-loop-i l =
-    (l .count ≡ sum-below (l .i) (λ i. count-below (length (l .segments)) (stem (l .segments) i))) × (l .count ≤ l .i) × (l .count ≤ 65535)
+Inv-loop-i l = (l .count ≡ sum-below (l .i) (λ i. count-below (length (l .segments)) (stem (l .segments) i))) × (l .count ≤ l .i)

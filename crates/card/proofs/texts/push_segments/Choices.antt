@@ -2,10 +2,10 @@ use mathlib.Core.Path.{_≡_}
 use mathlib.Core.List.{_++_}
 use lib.ListN.{drop}
 use Rattle.std.specs.Of.String.{string-bytes}
-use Rattle.card.specs.Cards.{segment-lines, text-of}
+use Rattle.card.specs.Cards.{segment-lines}
 use Rattle.card.proofs.texts.push_segments.Given as given
 
 abbrev pub Inv-loop-index : given.InvT-loop-index
 Inv-loop-index l =
-    string-bytes (l .card) ++ text-of (segment-lines (l .dim) (l .index) (drop (l .index) (l .segments)))
-    ≡ string-bytes (l .entry .card) ++ text-of (segment-lines (l .dim) 0 (l .segments))
+    string-bytes (l .card) ++ segment-lines (l .dim) (l .index) (drop (l .index) (l .segments))
+    ≡ string-bytes (l .entry .card) ++ segment-lines (l .dim) 0 (l .segments)

@@ -1,4 +1,6 @@
+pub mod Gathered
+pub mod Halved
+pub mod Paired
 pub mod Spaced
 pub mod Spelt
-pub mod Paired
-pub mod Gathered
+pub mod Sums

@@ -1,9 +1,11 @@
 -- Stems: pairs of segments that are each other's link.
+use mathlib.Core.Path.{_≡_}
 use mathlib.Core.Bool.{Bool, true, false, cond, _&&_}
 use mathlib.Core.List.{List, map}
 use Prim.Native.Nat.{ℕ, zero, suc, _+_}
 use lib.Dec.{eqb, ltb}
 use lib.ListN.{length, getD}
+use Rattle.std.specs.Options.{isSome}
 use Rattle.std.specs.declared.option.Option.{Option}
 use Rattle.std.specs.declared.option.Option.the-variants.{None, Some}
 use Rattle.segments.specs.declared.tables.Segment.{Segment}
@@ -41,3 +43,15 @@ count-below n p = sum-below n (λ k. cond (p k) 1 0)
 -- how many pairs of a table's entries are stems
 abbrev pub stem-count : List Segment → ℕ
 stem-count ss = sum-below (length ss) (λ i. count-below (length ss) (stem ss i))
+
+-- each link is returned, and none is to the entry itself
+abbrev pub Returned : List Segment → Type 0
+Returned ss = (i j : ℕ) → link-at ss i ≡ Some j → (link-at ss j ≡ Some i) × (i ≡ j → ⊥)
+
+-- how many entries have a link
+abbrev pub linked-count : List Segment → ℕ
+linked-count ss = count-below (length ss) (λ i. isSome (link-at ss i))
+
+-- n is half of the linked entries, where links are returned
+abbrev pub Halves : List Segment → ℕ → Type 0
+Halves ss n = Returned ss → n + n ≡ linked-count ss

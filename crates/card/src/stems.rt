@@ -2,7 +2,7 @@
 ghost use mathlib.Core.Path.{_≡_};
 ghost use Prim.Native.Nat.{_≤_};
 ghost use lib.ListN.{length};
-ghost use Rattle.card.specs.Stems.{is-index, link-at, opens, stem-count};
+ghost use Rattle.card.specs.Stems.{Halves, is-index, link-at, opens, stem-count};
 use segments::Segment;
 
 // The link of entry i; none past the table's end.
@@ -39,6 +39,7 @@ fn opens_stem(segments: &[Segment], i: usize) -> bool
 // How many pairs of entries are each other's link.
 pub fn stem_count(segments: &[Segment]) -> usize
     ensures value { λ r. ⌜ r ≡ stem-count (now (segments .entry)) ⌝ }
+    ensures halves { λ r. ⌜ Halves (now (segments .entry)) r ⌝ }
     ensures bound { λ r. ⌜ r ≤ length (now (segments .entry)) ⌝ }
 {
     let mut count = 0;

@@ -1,8 +1,11 @@
 use native.Mathlib.Omega.{arith}
-use mathlib.Core.Path.{_≡_, ap, sym}
+use mathlib.Core.Path.{_≡_, _∙_, ap, sym}
+use Prim.Native.Nat.{ℕ, _+_}
 use lib.ListN.{length}
-use Rattle.card.specs.Stems.{count-below, stem}
-use Rattle.card.proofs.Paired.{one, opens-counts, sum-none, sum-more}
+use Rattle.card.specs.Stems.{count-below, stem, stem-count, sum-below}
+use Rattle.card.proofs.Halved.{halves}
+use Rattle.card.proofs.Paired.{opens-counts}
+use Rattle.card.proofs.Sums.{one, sum-none, sum-more}
 use Rattle.card.proofs.stems.stem_count.Needs as need
 use Rattle.card.proofs.stems.stem_count.Needs.{then-opens-stem, else-opens-stem}
 
@@ -19,3 +22,10 @@ loop-i-again c =
       | then-opens-stem w ↦ let b = ap one (w .if-opens-stem .taken) in (omega arith, omega arith)
       | else-opens-stem w ↦ let b = ap one (w .if-opens-stem .left) in (omega arith, omega arith)
     ]
+
+pub returns : need.returns
+returns c =
+    let ss = c .args .segments .now in
+    let n : c .loop-i .i ≡ length ss = omega arith in
+    let e : c .loop-i .count ≡ stem-count ss = c .loop-i .inv .0 ∙ ap (λ (n : ℕ). sum-below n (λ i. count-below (length ss) (stem ss i))) n in
+    record { value = e; halves = λ h. ap (λ (n : ℕ). n + n) e ∙ halves ss h; bound = omega arith }

@@ -52,8 +52,8 @@ impl RecordFault {
 pub impl From<SettingsFault> for RecordFault as RecordFaultFromSettings {
     ghost converts = { λ fault r. r ≡ OfSettings fault };
 
-    fn from(fault: SettingsFault) -> RecordFault {
-        RecordFault::Settings(fault)
+    fn from(refused: SettingsFault) -> RecordFault {
+        RecordFault::Settings(refused)
     }
 }
 

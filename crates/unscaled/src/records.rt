@@ -36,12 +36,9 @@ impl<'a> RecordPoints<'a> {
     pub fn of_record(record: &'a [u8]) -> RecordPoints<'a>
         ensures { λ r. ⌜ now (r .bytes) ≡ body (now («record» .entry)) ⌝ }
     {
-        if record.len() < HEADER_BYTES {
-            RecordPoints { bytes: &[] }
-        } else {
-            RecordPoints {
-                bytes: &record[HEADER_BYTES..],
-            }
+        match record.split_at_checked(HEADER_BYTES) {
+            Some((_, points)) => RecordPoints { bytes: points },
+            None => RecordPoints { bytes: &[] },
         }
     }
 }

@@ -31,10 +31,9 @@ pub impl Source for PointTable<'_> as PointTableSource {
     }
 
     fn entry(&self, index: usize) -> Result<UnscaledPoint, SourceFault> {
-        if index < self.points.len() {
-            Ok(self.points[index])
-        } else {
-            Err(SourceFault::new(FaultReason::PastCount, index))
+        match self.points.get(index) {
+            Some(point) => Ok(*point),
+            None => Err(SourceFault::new(FaultReason::PastCount, index)),
         }
     }
 }

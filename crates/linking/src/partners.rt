@@ -39,7 +39,7 @@ fn reversed(dir: Direction) -> Direction
     }
 }
 
-// What `is_opposite` tells, by the reverse of the major direction, which a pass then finds only once.
+// As `is_opposite`, but by the reverse of the major direction: the compiler then takes it out of a pass's loop.
 fn is_reverse(dir: Direction, major: Direction) -> bool
     ensures { λ r. ⌜ r ≡ opposite major dir ⌝ }
 {

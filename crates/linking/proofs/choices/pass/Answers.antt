@@ -1,6 +1,8 @@
 use mathlib.Core.Path.{_≡_, sym, ap, subst, _∙_}
 use Prim.Native.Nat.{_+_}
+use mathlib.Core.Bool.{false}
 use native.Mathlib.Omega.{arith}
+use Rattle.outline.specs.Directions.{same}
 use Rattle.linking.specs.Rules.{pair-score}
 use Rattle.linking.specs.Choices.{at}
 use Rattle.linking.specs.Passes.{Shows, stage, exchanged}
@@ -24,7 +26,8 @@ returns-then-not-has-direction c =
     let r = c .args .rule .now in
     let n = c .args .n in
     let i = c .args .i in
-    shows-like xs n (stage r (at xs) n i 0) (stage r (at xs) n (i + 1) 0) xs (λ k h. skip r (at xs) n i k (sym (c .if-not-has-direction .ensures tt))) (c .pre .0)
+    let d : same (at xs i .dir) (r .major) ≡ false = sym {b = same (at xs i .dir) (r .major)} (c .if-not-has-direction .ensures tt) in
+    shows-like xs n (stage r (at xs) n i 0) (stage r (at xs) n (i + 1) 0) xs (λ k h. skip r (at xs) n i k d) (c .pre .0)
 
 pub returns : need.returns
 returns c =

@@ -32,6 +32,7 @@ abbrev pub told : Result Header RecordFault → Result Values RecordFault
 told (Ok h) = Ok (record { units = h .settings .units; width = h .settings .width; corner = h .corner })
 told (Err e) = Err e
 
+-- a byte by its place, and a number of two
 abbrev pub byte : List ℕ → ℕ → ℕ
 byte bs i = getD bs i 0
 
@@ -42,11 +43,12 @@ word bs i = byte bs i * 256 + byte bs (i + 1)
 abbrev pub body : List ℕ → List ℕ
 body bs = drop 8 bs
 
+-- code 0 is Jit, code 1 Aot
 abbrev pub corner-of : ℕ → CornerCode
 corner-of code = cond (eqb code 0) Jit Aot
 
 -- the values in the bytes, or the first check that fails
-unfoldable pub header : List ℕ → Result Values RecordFault
+abbrev pub header : List ℕ → Result Values RecordFault
 header bs =
     cond (ltb (length bs) 8) (Err TooShort)
     (cond (not (eqb (byte bs 0) 1)) (Err UnknownVersion)
@@ -57,7 +59,7 @@ header bs =
     (cond (ltb 16383 (word bs 5)) (Err (Settings Width))
     (Ok (record { units = word bs 3; width = word bs 5; corner = corner-of (byte bs 7) }))))))))
 
--- a signed number of two bytes
+-- a signed number of two bytes, two's complement
 abbrev pub signed : ℕ → ℕ → ℤ
 signed high low = toZ w16 (high * 256 + low)
 

@@ -57,6 +57,7 @@ pub impl From<SettingsFault> for RecordFault as RecordFaultFromSettings {
     }
 }
 
+// What a record says before its points. It holds no bytes: the points are `RecordPoints::of_record`.
 #[derive(Clone, Copy)]
 pub struct Header {
     pub settings: Settings,
@@ -74,7 +75,7 @@ fn corner_of(code: u8) -> Result<CornerCode, RecordFault>
 }
 
 impl Header {
-    // The header of a record, or why the bytes are none. All bytes count, not only the header's.
+    // The header of a record, or why the bytes are none. All bytes are looked at: their number must be the length told.
     pub fn read(bytes: &[u8]) -> Result<Header, RecordFault>
         ensures { λ r. ⌜ told r ≡ header (now (bytes .entry)) ⌝ }
     {

@@ -15,6 +15,7 @@ use crate::sources::Source;
 // How far from 0 a moved point may lie.
 const LIMIT: u64 = 16383;
 
+// The source below, each of its points moved by `dx` and `dy`.
 #[derive(Drop)]
 pub struct Placement<S> {
     pub below: S,
@@ -22,7 +23,7 @@ pub struct Placement<S> {
     pub dy: i32,
 }
 
-// Summed in 64 bits, where no two numbers wrap.
+// One number of a point, moved; none where that is out of range. The sum of 64 bits never wraps.
 fn shifted(from: i32, by: i32) -> Option<i32>
     ensures { λ r. ⌜ r ≡ cond (in-range (from +ℤ by)) (Some (from +ℤ by)) None ⌝ }
 {
@@ -34,6 +35,7 @@ fn shifted(from: i32, by: i32) -> Option<i32>
     }
 }
 
+// The point moved, or a fault at its index where that is out of range.
 fn move_point(
     point: UnscaledPoint,
     dx: i32,

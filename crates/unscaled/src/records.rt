@@ -1,7 +1,7 @@
 // The points of a drawing record as a source.
 ghost use mathlib.Core.Path.{_≡_};
 ghost use mathlib.Core.List.{[], _∷_};
-ghost use Prim.Native.Nat.{_+_};
+ghost use Prim.Native.Nat.{_+_, _/_};
 ghost use lib.ListN.{getD};
 ghost use denote.Ref.{now};
 ghost use Rattle.std.specs.Options.{Cases};
@@ -19,6 +19,7 @@ pub(crate) const POINT_BYTES: usize = 5;
 // The greatest kind: 1 for on the curve, and 2 for a contour start.
 const MOST_KIND: u8 = 3;
 
+// The bytes of a record's points, lent.
 #[derive(Clone, Copy)]
 pub struct RecordPoints<'a> {
     bytes: &'a [u8],
@@ -43,6 +44,14 @@ impl<'a> RecordPoints<'a> {
     }
 }
 
+// How many whole points so many bytes hold.
+fn whole_points(bytes: usize) -> usize
+    ensures { λ r. ⌜ r ≡ bytes / 5 ⌝ }
+{
+    bytes / POINT_BYTES
+}
+
+// The point that these five bytes make, or a fault at the index where the kind is unknown.
 fn point_of(index: usize, x: [u8; 2], y: [u8; 2], kind: u8) -> Result<UnscaledPoint, SourceFault>
     ensures { λ r. ⌜ r ≡ entry-of index (getD x 0 0) (getD x 1 0) (getD y 0 0) (getD y 1 0) kind ⌝ }
 {
@@ -80,12 +89,12 @@ pub impl Source for RecordPoints<'_> as RecordPointsSource {
     ghost placed = { λ _. 0 };
 
     fn count(&self) -> usize {
-        self.bytes.len() / POINT_BYTES
+        whole_points(self.bytes.len())
     }
 
     fn entry(&self, index: usize) -> Result<UnscaledPoint, SourceFault> {
         let past = SourceFault::new(FaultReason::PastCount, index);
-        if index >= self.bytes.len() / POINT_BYTES {
+        if index >= whole_points(self.bytes.len()) {
             return Err(past);
         }
         match split_entry(index, &self.bytes[POINT_BYTES * index..]) {

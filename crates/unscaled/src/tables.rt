@@ -8,6 +8,7 @@ use crate::faults::SourceFault;
 use crate::points::UnscaledPoint;
 use crate::sources::Source;
 
+// Points in their order, lent.
 #[derive(Clone, Copy)]
 pub struct PointTable<'a> {
     points: &'a [UnscaledPoint],

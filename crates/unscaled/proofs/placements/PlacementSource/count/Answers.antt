@@ -1,6 +1,6 @@
-use mathlib.Core.Path.{sym, _∙_}
+use borrow.Author.Needs.{needs}
 use Rattle.unscaled.proofs.Moves.{length-mapped}
 use Rattle.unscaled.proofs.placements.PlacementSource.count.Needs as need
 
 pub returns : need.returns
-returns g c = c .count .ensures ∙ sym (length-mapped _ 0 _)
+returns g c = search (needs, length-mapped)

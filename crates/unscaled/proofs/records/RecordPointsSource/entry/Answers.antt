@@ -6,11 +6,8 @@ use Rattle.unscaled.specs.Records.{entries-from}
 use Rattle.unscaled.proofs.Bytes.{entry-at, entry-past, first-tells}
 use Rattle.unscaled.proofs.records.RecordPointsSource.entry.Needs as need
 
-pub returns-then-index-self : need.returns-then-index-self
-returns-then-index-self c = record {
-  value = rw (c .new-past .ensures) (entry-past (c .args .index) (c .args .self .now .bytes .now) _ (c .if-index-self .taken));
-  fault = search needs;
-}
+pub returns-then-index-whole-points : need.returns-then-index-whole-points
+returns-then-index-whole-points c = search (needs, entry-past)
 
 pub returns-in-Some : need.returns-in-Some
 returns-in-Some c =

@@ -1,6 +1,6 @@
-use mathlib.Core.Path.{sym}
+use borrow.Author.Needs.{needs}
 use lib.ListN.{length-map}
 use Rattle.unscaled.proofs.tables.PointTableSource.count.Needs as need
 
 pub returns : need.returns
-returns c = sym (length-map _ _)
+returns c = search (needs, length-map)

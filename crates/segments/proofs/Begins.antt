@@ -13,7 +13,7 @@ use Rattle.std.proofs.shelf.Lists.{length-take-le}
 use Rattle.std.proofs.shelf.Tests.{and-parts, and-cases, both-ways}
 use Rattle.segments.specs.declared.measures.AxisPoint.{AxisPoint}
 use Rattle.segments.specs.declared.measures.Dimension.{Dimension}
-use Rattle.segments.specs.Starts.{on, all-on, head-on, last-on, run-of, start-of, Last, Begins, Starts-told}
+use Rattle.segments.specs.Starts.{on, all-on, head-on, last-on, run-of, Last, Starts-told}
 
 module _ (dim : Dimension) where
   each-on : (ps : List AxisPoint) → all-on dim ps ≡ true → All (λ p. on dim p ≡ true) ps

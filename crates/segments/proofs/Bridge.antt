@@ -1,5 +1,5 @@
 -- The builder's states are summaries of the points taken in.
-use mathlib.Core.Path.{_≡_, sym, _∙_, ap, refl, subst}
+use mathlib.Core.Path.{_≡_, sym, _∙_, ap, refl}
 use mathlib.Core.Bool.{Bool, true, false, cond, not, _&&_}
 use mathlib.Core.List.{List, [], _∷_, _++_, map}
 use Prim.Native.Nat.{ℕ, _+_}
@@ -21,13 +21,13 @@ use Rattle.segments.specs.declared.states.State.{State}
 use Rattle.segments.specs.declared.walks.Walk.{Walk}
 use Rattle.segments.specs.declared.walks.Walk.the-variants.{Between, Inside}
 use Rattle.segments.specs.declared.walks.Moved.{Moved}
-use Rattle.segments.specs.Building.{Visit, Built, list-of, room-with, done-with, latest-with, follow, visited, walked, fresh, segs-of, visits-of, lone-built, built-of}
-use Rattle.segments.specs.Closing.{joins, survivor, merged-into}
+use Rattle.segments.specs.Building.{Visit, Built, list-of, room-with, done-with, latest-with, follow, visited, walked, segs-of, visits-of, lone-built, built-of}
+use Rattle.segments.specs.Closing.{joins, merged-into}
 use Rattle.segments.specs.Measures.{seen, lesser, greater}
 use Rattle.segments.specs.Starts.{on}
 use Rattle.segments.specs.Segments.{segment-of}
 use Rattle.segments.specs.States.{opened, taken, merged}
-use Rattle.segments.specs.Stretches.{Taken, lone, more, first-of, last-of, both, least-of, greatest-of, low-of, high-of, reach-of, height-of, Stretch, plain, unite, summary, Went, enters, went, Course, touches, unite-with, earlier, newest, onward, coursed, setting-out, lone-course, course, course-of, stretches-of, segments-of, most-of, shifted}
+use Rattle.segments.specs.Stretches.{Taken, lone, more, first-of, last-of, both, least-of, greatest-of, height-of, Stretch, plain, unite, summary, Went, went, Course, touches, unite-with, earlier, newest, onward, coursed, setting-out, lone-course, course, course-of, stretches-of, segments-of, most-of, shifted}
 use Rattle.segments.specs.Walks.{moved}
 
 lesser-assoc : (a b c : Position) → lesser (lesser a b) c ≡ lesser a (lesser b c)
@@ -52,7 +52,7 @@ pub last-both : (t u : Taken) → last-of (both t u) ≡ last-of u
 last-both t (lone v) = refl
 last-both t (more u v) = refl
 
-abbrev through : {X Y : Type 0} → (X → Y) → Option X → Option Y
+abbrev pub through : {X Y : Type 0} → (X → Y) → Option X → Option Y
 through f None = None
 through f (Some x) = Some (f x)
 
@@ -67,14 +67,14 @@ module _ (dim : Dimension) (base : ℕ) where
   abbrev S : Stretch → State
   S s = summary base s
 
-  abbrev SP : Taken → State
+  abbrev pub SP : Taken → State
   SP t = summary base (plain t)
 
-  abbrev walk-of : Option Taken → Walk
+  abbrev pub walk-of : Option Taken → Walk
   walk-of None = Between
   walk-of (Some t) = Inside (SP t)
 
-  abbrev move-of : Went → Moved
+  abbrev pub move-of : Went → Moved
   move-of w = record { closed = through SP (w .closed); opens = w .opens; walk = walk-of (w .inside) }
 
   abbrev pub built-by : Course → Built
@@ -93,7 +93,7 @@ module _ (dim : Dimension) (base : ℕ) where
   in-is true t v m w e = refl
   in-is false t v m w e = e
 
-  moved-is : (o : Option Taken) (v : Visit) → moved dim (walk-of o) (base + v .at) (v .point) (v .ends) ≡ move-of (went dim o v)
+  pub moved-is : (o : Option Taken) (v : Visit) → moved dim (walk-of o) (base + v .at) (v .point) (v .ends) ≡ move-of (went dim o v)
   moved-is None v = met-is (on dim (v .point) && not (v .ends)) None v
   moved-is (Some t) v =
       in-is (same (v .point .«out_dir») (first-of t .point .«out_dir») && not (v .ends)) t v _ _

@@ -6,7 +6,7 @@ use Prim.Native.Nat.{ℕ, _+_, _-_, _<_, _≤_}
 use native.Mathlib.Omega.{arith}
 use lib.Dec.{ltb}
 use lib.ListN.{length, take, drop, getD}
-use Rattle.std.proofs.shelf.Lists.{length-append, length-map, drop-more, drop-all, append-nil, length-drop, length-take, take-at}
+use Rattle.std.proofs.shelf.Lists.{length-append, length-map, drop-more, drop-all, append-nil, take-at}
 use Rattle.std.proofs.shelf.Tests.{lt-ltb, le-ltb, or-left, false≢true}
 use Rattle.std.specs.Results.{isErr}
 use Rattle.std.specs.declared.result.Result.{Result}
@@ -21,7 +21,7 @@ use Rattle.segments.specs.declared.tables.Segment.{Segment}
 use Rattle.segments.specs.Segments.{segment-of, blank}
 use Rattle.segments.specs.Building.{Built, Answer, put, segs-of, walked, visits-of, lone-built, built-of}
 use Rattle.segments.specs.Measures.{seen}
-use Rattle.segments.specs.Readings.{points-of, entries-of, room-of, all-entries, overflows, Inside, Fills, Filled, Granted, Read, blanks}
+use Rattle.segments.specs.Readings.{points-of, entries-of, room-of, all-entries, overflows, Inside, Fills, Filled, used-by, Granted, Read, blanks}
 use Rattle.segments.proofs.Bridge.{segments-is, most-is}
 use Rattle.segments.proofs.Puts.{put-none, put-put}
 
@@ -154,7 +154,7 @@ filled-err dim units ps cs t t′ (Err x) e o = o
 -- a reading: filled, and blank after that
 module _ (dim : Dimension) (given units : ℕ) (ps : List Point) (cs : List Contour) (t u t′ : List Segment)
     (units-is : given ≡ units) (same-length : length u ≡ length t) where
-  pub granted : (n : ℕ) → Fills dim given ps cs t u n → t′ ≡ take n u ++ blanks (length u - n) → Granted dim units ps cs t t′ n
+  granted : (n : ℕ) → Fills dim given ps cs t u n → t′ ≡ take n u ++ blanks (length u - n) → Granted dim units ps cs t t′ n
   granted n f t-is = subst (λ (k : ℕ). Granted dim k ps cs t t′ n) units-is (record {
     fits = f .fits;
     few = f .few;
@@ -167,8 +167,15 @@ module _ (dim : Dimension) (given units : ℕ) (ps : List Point) (cs : List Cont
         ∙ ap (λ (k : ℕ). all-entries dim given ps cs ++ blanks (k - n)) same-length;
   })
 
-  pub refused : (e : BuildFault) → overflows dim given ps 0 cs ≡ true → t′ ≡ take 0 u ++ blanks (length u - 0) → Read dim units ps cs t t′ (Err e)
-  refused TooManySegments over t-is = record {
-    over = ap (λ (k : ℕ). overflows dim k ps 0 cs) (sym units-is) ∙ over;
+  pub read-is : (r : Result ℕ BuildFault) → Filled dim given ps cs t u r → t′ ≡ take (used-by r) u ++ blanks (length u - used-by r) →
+      Read dim units ps cs t t′ r
+  read-is (Ok n) f t-is = granted n f t-is
+  read-is (Err TooManySegments) f t-is = record {
+    over = ap (λ (k : ℕ). overflows dim k ps 0 cs) (sym units-is) ∙ f;
     table = let n : length u - 0 ≡ length t = omega arith in t-is ∙ ap blanks n;
   }
+
+pub used-few : (dim : Dimension) (units : ℕ) (ps : List Point) (cs : List Contour) (t u : List Segment) (r : Result ℕ BuildFault) →
+    Filled dim units ps cs t u r → used-by r ≤ 1001
+used-few dim units ps cs t u (Ok n) f = f .few
+used-few dim units ps cs t u (Err e) f = omega arith

@@ -1,21 +1,19 @@
 -- Least and greatest in the order's sense, and who gave them first.
 use mathlib.Core.Path.{_≡_, sym, _∙_, ap, refl, subst}
-use mathlib.Core.Bool.{Bool, true, false, cond, not, _&&_, _||_}
-use mathlib.Core.List.{List, [], _∷_, _++_, map, append-assoc}
-use mathlib.Core.Logic.{_⊎_, inl, inr}
+use mathlib.Core.Bool.{Bool, true, false, cond, not, _||_}
+use mathlib.Core.List.{List, [], _∷_, _++_, append-assoc}
 use Prim.Native.Nat.{ℕ, _/_, _<_}
 use native.Mathlib.Omega.{arith}
-use lib.Dec.{ltb}
-use lib.IntN.{ℤ, pos, natAbs, _+ℤ_, _-ℤ_}
+use lib.IntN.{ℤ, pos, natAbs, _-ℤ_}
 use lib.Signed.{_≤ℤ_, _<ℤ_, ltZ}
 use Rattle.std.specs.Numbers.{minZ, maxZ}
 use Rattle.std.specs.Orderings.{Decides}
-use Rattle.std.specs.shelf.Lists.{All, Has, kept-by}
+use Rattle.std.specs.shelf.Lists.{All, kept-by}
 use Rattle.std.specs.declared.option.Option.{Option}
 use Rattle.std.specs.declared.option.Option.the-variants.{Some, None}
 use Rattle.std.proofs.shelf.Elements.{all-push, all-weaker, all-has, has-append-left, has-push, kept-by-append}
 use Rattle.std.proofs.shelf.Lists.{map-push, map-append, append-nil}
-use Rattle.std.proofs.shelf.Signed.{ints, by-ltZ}
+use Rattle.std.proofs.shelf.Signed.{ints}
 use Rattle.std.proofs.shelf.Tests.{ltb-true, lt-ltb}
 use Rattle.std.proofs.shelf.Ways.{decides-and, decides-or}
 use Rattle.outline.specs.declared.points.PointKind.{PointKind}
@@ -23,9 +21,9 @@ use Rattle.outline.specs.declared.points.PointKind.the-variants.{Control, OnCur
 use Rattle.segments.specs.declared.measures.AxisPoint.{AxisPoint}
 use Rattle.segments.specs.declared.states.Mark.{Mark}
 use Rattle.segments.specs.declared.states.Reach.{Reach}
-use Rattle.segments.specs.States.{mark-of, control, lowered, raised, reach-with, on-reach, short}
-use Rattle.segments.specs.Stretches.{Taken, lone, more, least-of, greatest-of, low-of, high-of, reach-of, Stretch}
-use Rattle.segments.specs.Told.{points-in, positions, coordinates, on-curve, curve, Least, Greatest, First, Close, Told, Segments-told}
+use Rattle.segments.specs.States.{mark-of, control, reach-with, on-reach, short}
+use Rattle.segments.specs.Stretches.{Taken, lone, more, least-of, greatest-of, low-of, high-of, reach-of}
+use Rattle.segments.specs.Told.{points-in, positions, coordinates, on-curve, curve, Least, Greatest, First, Close, Segments-told}
 
 -- a picked element has what each candidate has
 picks : {X : Type 0} (P : X → Type 0) (j : Bool) (a b : X) → (j ≡ true → P a) → (j ≡ false → P b) → P (cond j a b)
@@ -73,7 +71,6 @@ at-cond f false a b = refl
 low-told : (t : Taken) → Least (low-of t .at .0) (coordinates (points-in t))
 low-told (lone v) = one-least (v .point .coordinate .0)
 low-told (more t v) =
-    let z : ℤ = v .point .coordinate .0 in
     subst (λ (m : ℤ). Least m (coordinates (points-in (more t v))))
     (sym (at-cond (λ (k : Mark). k .at .0) (ltZ (v .point .coordinate .0) (low-of t .at .0)) (mark-of (v .point)) (low-of t)))
     (subst (Least (minZ (low-of t .at .0) (v .point .coordinate .0))) (sym (map-push (λ (p : AxisPoint). p .coordinate .0) (points-in t) (v .point)))
@@ -172,8 +169,6 @@ gap-is l h le = omega (arith, ints)
 short-decides : (units : ℕ) (r : Option Reach) (zs : List ℤ) → Reached r zs → Decides (short units r) (Close units zs)
 short-decides units None zs e = (λ _. subst (Close units) (sym e) tt, λ _. refl)
 short-decides units (Some r) zs e =
-    let l : ℤ = r .low .0 in
-    let h : ℤ = r .high .0 in
     let le : r .low .0 ≤ℤ r .high .0 = ordered (r .low .0) (r .high .0) zs (e .0) (e .1) in
     let g : pos (natAbs (r .high .0 -ℤ r .low .0)) ≡ r .high .0 -ℤ r .low .0 = gap-is (r .low .0) (r .high .0) le in (
       λ t. let lt : natAbs (r .high .0 -ℤ r .low .0) < units / 14 = ltb-true (natAbs (r .high .0 -ℤ r .low .0)) (units / 14) t in

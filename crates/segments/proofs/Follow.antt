@@ -1,28 +1,27 @@
 -- The builder follows the walk of the specification.
-use mathlib.Core.Path.{_≡_, sym, _∙_, ap, refl, subst}
+use mathlib.Core.Path.{_≡_, sym, _∙_, ap, refl}
 use mathlib.Core.Bool.{Bool, cond, true, false}
 use mathlib.Core.List.{List, [], _∷_, _++_, map}
-use Prim.Native.Nat.{ℕ, _+_, _-_, _<_, _≤_, max}
+use Prim.Native.Nat.{ℕ, _+_, _-_, _<_, _≤_}
 use native.Mathlib.Omega.{arith}
-use lib.IntN.{ℤ}
 use lib.ListN.{length, take, drop, getD}
 use Rattle.std.specs.Iters.{folded}
 use Rattle.std.specs.declared.option.Option.{Option}
 use Rattle.std.specs.declared.option.Option.the-variants.{Some, None}
-use Rattle.std.proofs.shelf.Lists.{length-append, length-push, append-nil, take-append-drop, take-all}
+use Rattle.std.proofs.shelf.Lists.{length-push, take-append-drop}
 use Rattle.std.proofs.shelf.Sums.{folded-more}
-use Rattle.std.proofs.shelf.Tests.{true≢false, false≢true}
+use Rattle.std.proofs.shelf.Tests.{false≢true}
 use Rattle.segments.specs.declared.measures.Dimension.{Dimension}
 use Rattle.segments.specs.declared.tables.Segment.{Segment}
 use Rattle.segments.specs.declared.states.State.{State}
 use Rattle.segments.specs.declared.walks.Walk.{Walk}
 use Rattle.segments.specs.declared.walks.Moved.{Moved}
-use Rattle.segments.specs.Closing.{joins, survivor, place-of}
+use Rattle.segments.specs.Closing.{joins, survivor}
 use Rattle.segments.specs.Segments.{segment-of}
 use Rattle.segments.specs.Walks.{moved}
 use Rattle.segments.specs.Building.{Built, Visit, put, list-of, segs-of, done-with, latest-with, room-with, count-with, table-with, CanSettle, follow, visited, fresh, walked}
 use Rattle.segments.proofs.Puts.{table-close}
-use Rattle.segments.proofs.Rooms.{one, one-le, Sound, moved-sound}
+use Rattle.segments.proofs.Rooms.{one, one-le, Sound}
 
 pub record Follows (units : ℕ) (t : List Segment) (h : ℕ) (b : Built) (walk : Walk) (latest : Option State) (n : ℕ) (table : List Segment) : Type 0 where
   pub walks : walk ≡ b .walk
@@ -66,7 +65,7 @@ room-fits : (o : Bool) (h room len : ℕ) → h + room ≤ 1001 → (o ≡ true 
 room-fits true h room len a b = omega (arith, b refl)
 room-fits false h room len a b = a
 
-room-holds : (o : Bool) (room len k : ℕ) → k ≤ 1 → (o ≡ false → len + k ≤ room) → len + k ≤ room-with room o len
+pub room-holds : (o : Bool) (room len k : ℕ) → k ≤ 1 → (o ≡ false → len + k ≤ room) → len + k ≤ room-with room o len
 room-holds true room len k a b = omega arith
 room-holds false room len k a b = b refl
 
@@ -74,7 +73,7 @@ room-refuses : (o : Bool) (h room len : ℕ) → o ≡ true → 1000 < h + len �
 room-refuses true h room len e lt = omega arith
 room-refuses false h room len e lt = absurd (false≢true e)
 
-room-grows : (o : Bool) (room len : ℕ) → room ≤ room-with room o len
+pub room-grows : (o : Bool) (room len : ℕ) → room ≤ room-with room o len
 room-grows true room len = omega arith
 room-grows false room len = omega arith
 
@@ -143,7 +142,7 @@ room-folded dim base b (v ∷ vs) =
     let m : Moved = moved dim (b .walk) (base + v .at) (v .point) (v .ends) in
     omega (arith, room-grows (m .opens) (b .room) (length (segs-of (follow b m))), room-folded dim base (visited dim base b v) vs)
 
-folded-append : {A B : Type 0} (f : B → A → B) (a : B) (xs ys : List A) → folded f a (xs ++ ys) ≡ folded f (folded f a xs) ys
+pub folded-append : {A B : Type 0} (f : B → A → B) (a : B) (xs ys : List A) → folded f a (xs ++ ys) ≡ folded f (folded f a xs) ys
 folded-append f a [] ys = refl
 folded-append f a (x ∷ xs) ys = folded-append f (f a x) xs ys
 

@@ -12,3 +12,4 @@ pub mod Walked
 pub mod Alone
 pub mod Within
 pub mod Begins
+pub mod Overfull

@@ -2,7 +2,7 @@
 use mathlib.Core.Path.{_≡_, sym, _∙_, ap, refl, subst}
 use mathlib.Core.Bool.{Bool, true, false, cond}
 use mathlib.Core.List.{List, [], _∷_, _++_, append-assoc}
-use Prim.Native.Nat.{ℕ, _≤_, _<_}
+use Prim.Native.Nat.{_≤_, _<_}
 use native.Mathlib.Omega.{arith}
 use lib.Dec.{eqb, ltb}
 use Rattle.std.specs.shelf.Lists.{All}
@@ -12,8 +12,8 @@ use Rattle.std.proofs.shelf.Elements.{all-append, all-push, all-weaker}
 use Rattle.std.proofs.shelf.Lists.{append-nil}
 use Rattle.std.proofs.shelf.Tests.{ltb-true, ltb-false, eqb-true, eqb-false}
 use Rattle.segments.specs.Building.{Visit, list-of}
-use Rattle.segments.specs.Rows.{Group, single, then, rows-in, whole, Meets, Merged, AllMerged, all-rows, Apart}
-use Rattle.segments.specs.Stretches.{Taken, lone, more, first-of, last-of, both, height-of, Stretch, plain, unite, touches, unite-with, earlier, newest}
+use Rattle.segments.specs.Rows.{Group, single, then, rows-in, Meets, Merged, AllMerged, all-rows, Apart}
+use Rattle.segments.specs.Stretches.{Taken, lone, more, first-of, last-of, both, height-of, Stretch, plain, unite, earlier, newest}
 
 first-both : (t u : Taken) → first-of (both t u) ≡ first-of t
 first-both t (lone v) = refl

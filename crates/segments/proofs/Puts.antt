@@ -1,19 +1,16 @@
 -- What a write to the table leaves: one more entry, or another latest one.
-use mathlib.Core.Path.{_≡_, sym, _∙_, ap, refl, subst}
+use mathlib.Core.Path.{_≡_, sym, _∙_, ap, refl}
 use mathlib.Core.Bool.{Bool, cond, true, false}
 use mathlib.Core.List.{List, [], _∷_, _++_, map, append-assoc}
 use Prim.Native.Nat.{ℕ, _+_, _-_, _<_, _≤_}
 use native.Mathlib.Omega.{arith}
-use lib.Dec.{eqb}
-use lib.IntN.{ℤ}
 use lib.ListN.{length, take, drop, getD, set}
 use Rattle.std.specs.declared.option.Option.{Option}
 use Rattle.std.specs.declared.option.Option.the-variants.{Some, None}
 use Rattle.std.proofs.shelf.Lists.{drop-more, set-at, length-append, length-take-le, length-push, map-push, length-map, append-nil, take-append-drop, take-at, drop-at, drop-drop, drop-all, length-replicate, replicate-more}
 use Rattle.segments.specs.declared.tables.Segment.{Segment}
 use Rattle.segments.specs.declared.states.State.{State}
-use Rattle.segments.specs.Closing.{joins, survivor, merged-into, place-of}
-use Rattle.segments.specs.States.{merged}
+use Rattle.segments.specs.Closing.{joins, survivor, place-of}
 use Rattle.segments.specs.Building.{put, list-of, done-with}
 use Rattle.segments.specs.Readings.{blanks}
 use Rattle.segments.specs.Segments.{blank}

@@ -1,14 +1,12 @@
 -- How much room a step needs.
-use mathlib.Core.Path.{_≡_, sym, _∙_, ap, refl}
+use mathlib.Core.Path.{_≡_}
 use mathlib.Core.Bool.{Bool, cond, true, false, not, _&&_}
-use mathlib.Core.List.{List, [], _∷_, _++_}
-use Prim.Native.Nat.{ℕ, _+_, _-_, _<_, _≤_}
+use Prim.Native.Nat.{ℕ, _+_, _-_, _≤_}
 use native.Mathlib.Omega.{arith}
 use lib.ListN.{length}
 use Rattle.std.proofs.shelf.Tests.{true≢false}
 use Rattle.std.specs.declared.option.Option.{Option}
 use Rattle.std.specs.declared.option.Option.the-variants.{Some, None}
-use Rattle.std.proofs.shelf.Lists.{length-append, length-push, append-nil}
 use Rattle.segments.specs.declared.measures.AxisPoint.{AxisPoint}
 use Rattle.segments.specs.declared.measures.Dimension.{Dimension}
 use Rattle.segments.specs.declared.states.State.{State}
@@ -19,8 +17,7 @@ use Rattle.segments.specs.Measures.{on-line}
 use Rattle.segments.specs.States.{opened, taken}
 use Rattle.outline.specs.Directions.{same}
 use Rattle.segments.specs.Walks.{moved}
-use Rattle.segments.specs.Closing.{joins, survivor, place-of}
-use Rattle.segments.specs.Building.{Built, list-of, done-with, latest-with, count-with}
+use Rattle.segments.specs.Building.{list-of}
 
 -- an open segment is one
 abbrev pub one : Walk → ℕ

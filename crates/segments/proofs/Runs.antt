@@ -96,29 +96,25 @@ module _ (dim : Dimension) where
         let z : s ≡ 0 = omega arith in
         omega (arith, run-zero (map (seen dim) ps) (ap (λ (i : ℕ). all-on dim (drop i (map (seen dim) ps))) (sym z) ∙ h))
 
-    pub starts-back : (d e : Point) (r : ℕ) → 0 < length ps → on-line dim (getD ps 0 d .«out_dir») ≡ true →
-        on-line dim (getD ps (length ps - 1) e .«out_dir») ≡ true → r ≡ run-of dim (map (seen dim) ps) →
-        (r ≡ start-of dim (map (seen dim) ps)) × (r < length ps)
-    starts-back d e r lt h l r-is =
+    -- the tests of the two ends
+    ends-are : (d e : Point) → 0 < length ps →
+        (head-on dim (map (seen dim) ps) && last-on dim (map (seen dim) ps)) ≡ (on-line dim (getD ps 0 d .«out_dir») && on-line dim (getD ps (length ps - 1) e .«out_dir»))
+    ends-are d e lt =
         let n : length (map (seen dim) ps) ≡ length ps = length-map ps (seen dim) in
-        let first : head-on dim (map (seen dim) ps) ≡ true = head-is (map (seen dim) ps) (seen dim d) (omega arith) ∙ at 0 d lt ∙ h in
-        let last : last-on dim (map (seen dim) ps) ≡ true
-        = last-is (map (seen dim) ps) (length ps - 1) (seen dim e) (omega arith) ∙ at (length ps - 1) e (omega arith) ∙ l in (
-          r-is ∙ sym (cond-true _ (run-of dim (map (seen dim) ps)) 0 (and-from (head-on dim (map (seen dim) ps)) (last-on dim (map (seen dim) ps)) first last)),
-          omega (arith, run-in (map (seen dim) ps) last),
-        )
+        ap (λ (b : Bool). b && last-on dim (map (seen dim) ps)) (head-is (map (seen dim) ps) (seen dim d) (omega arith) ∙ at 0 d lt)
+        ∙ ap (λ (b : Bool). on-line dim (getD ps 0 d .«out_dir») && b)
+        (last-is (map (seen dim) ps) (length ps - 1) (seen dim e) (omega arith) ∙ at (length ps - 1) e (omega arith))
 
-    pub starts-first : (head-on dim (map (seen dim) ps) && last-on dim (map (seen dim) ps)) ≡ false → 0 ≡ start-of dim (map (seen dim) ps)
-    starts-first off = sym (cond-false _ (run-of dim (map (seen dim) ps)) 0 off)
+    module _ (d e : Point) (b : Bool) (lt : 0 < length ps)
+        (b-is : b ≡ (on-line dim (getD ps 0 d .«out_dir») && on-line dim (getD ps (length ps - 1) e .«out_dir»))) where
+      tested : (head-on dim (map (seen dim) ps) && last-on dim (map (seen dim) ps)) ≡ b
+      tested = ends-are d e lt ∙ sym b-is
 
-    pub head-off : (d : Point) → 0 < length ps → on-line dim (getD ps 0 d .«out_dir») ≡ false →
-        (head-on dim (map (seen dim) ps) && last-on dim (map (seen dim) ps)) ≡ false
-    head-off d lt h =
-        and-left (head-on dim (map (seen dim) ps)) (last-on dim (map (seen dim) ps))
-        (head-is (map (seen dim) ps) (seen dim d) (omega (arith, length-map ps (seen dim))) ∙ at 0 d lt ∙ h)
+      pub starts-back : (r : ℕ) → b ≡ true → r ≡ run-of dim (map (seen dim) ps) → (r ≡ start-of dim (map (seen dim) ps)) × (r < length ps)
+      starts-back r h r-is = (
+        r-is ∙ sym (cond-true _ (run-of dim (map (seen dim) ps)) 0 (tested ∙ h)),
+        omega (arith, run-in (map (seen dim) ps) (and-parts (head-on dim (map (seen dim) ps)) (last-on dim (map (seen dim) ps)) (tested ∙ h) .1), length-map ps (seen dim)),
+      )
 
-    pub last-off : (d : Point) → 0 < length ps → on-line dim (getD ps (length ps - 1) d .«out_dir») ≡ false →
-        (head-on dim (map (seen dim) ps) && last-on dim (map (seen dim) ps)) ≡ false
-    last-off d lt h =
-        and-right (head-on dim (map (seen dim) ps)) (last-on dim (map (seen dim) ps))
-        (last-is (map (seen dim) ps) (length ps - 1) (seen dim d) (omega (arith, length-map ps (seen dim))) ∙ at (length ps - 1) d (omega arith) ∙ h)
+      pub starts-first : b ≡ false → 0 ≡ start-of dim (map (seen dim) ps)
+      starts-first h = sym (cond-false _ (run-of dim (map (seen dim) ps)) 0 (tested ∙ h))

@@ -1,15 +1,13 @@
 -- One turn of the loop.
-use mathlib.Core.Path.{_≡_, sym, _∙_, ap, refl, subst}
-use mathlib.Core.Bool.{Bool, true, false}
+use mathlib.Core.Path.{_≡_, sym, _∙_, ap, subst}
+use mathlib.Core.Bool.{true, false}
 use mathlib.Core.List.{List, map}
-use mathlib.Core.Logic.{_⊎_, inl, inr}
 use Prim.Native.Nat.{ℕ, _+_, _<_, _≤_}
 use native.Mathlib.Omega.{arith}
 use lib.Dec.{eqb}
 use lib.ListN.{length, take, getD}
 use Rattle.std.specs.declared.option.Option.{Option}
 use Rattle.std.proofs.shelf.Lists.{take-all, getD-map, length-map}
-use Rattle.std.proofs.shelf.Tests.{both-ways}
 use Rattle.outline.specs.declared.points.Point.{Point}
 use Rattle.segments.specs.declared.measures.AxisPoint.{AxisPoint}
 use Rattle.segments.specs.declared.measures.Dimension.{Dimension}
@@ -21,7 +19,7 @@ use Rattle.segments.specs.Walks.{moved}
 use Rattle.segments.specs.Segments.{segment-of}
 use Rattle.segments.specs.Measures.{seen}
 use Rattle.segments.specs.Starts.{start-of}
-use Rattle.segments.specs.Building.{Built, Visit, put, segs-of, numbered, once-round, visits-of, wrap-at, walked, visited, follow, latest-with, count-with, table-with, CanSettle}
+use Rattle.segments.specs.Building.{Built, Visit, put, segs-of, numbered, visits-of, wrap-at, walked, visited, follow, latest-with, count-with, table-with, CanSettle}
 use Rattle.segments.proofs.Rooms.{Sound, moved-sound}
 use Rattle.segments.proofs.Visits.{length-numbered, length-round, getD-round}
 use Rattle.segments.proofs.Follow.{Follows, follows-more, can-settle, refuses, walked-more, room-walked}
@@ -75,13 +73,12 @@ module _ (units h : ℕ) (t : List Segment) (dim : Dimension) (base : ℕ) (ps :
       ∙ ap (visited dim base before) (getD-round qs (start-of dim qs) k (record { at = 0; point = x; ends = false }) x starts (omega (arith, same-length)))
       ∙ ap (follow before) (sym moves)
 
-  quiet : (c : ℕ) → c ≡ count-with n latest (m .closed) → ((m .opens ≡ true) × (c ≤ 1000)) ⊎ (m .opens ≡ false) →
-      m .opens ≡ true → count-with n latest (m .closed) ≤ 1000
-  quiet c c-is (inl p) e = omega (arith, p .1)
-  quiet c c-is (inr q) e = absurd (both-ways (m .opens) q e)
+  -- unless a segment opens there are few enough
+  quiet : (c : ℕ) → c ≡ count-with n latest (m .closed) → (m .opens ≡ true → c ≤ 1000) → m .opens ≡ true → count-with n latest (m .closed) ≤ 1000
+  quiet c c-is few e = omega (arith, few e)
 
   pub turn-follows : 1001 ≤ length t →
-      (l : Option State) (c : ℕ) (u : List Segment) → ((m .opens ≡ true) × (c ≤ 1000)) ⊎ (m .opens ≡ false) → l ≡ latest-with latest (m .closed) → c ≡ count-with n latest (m .closed) →
+      (l : Option State) (c : ℕ) (u : List Segment) → (m .opens ≡ true → c ≤ 1000) → l ≡ latest-with latest (m .closed) → c ≡ count-with n latest (m .closed) →
       u ≡ table-with units table n latest (m .closed) →
       Follows units t h (walked dim base (take (k + 1) (visits-of dim qs))) (m .walk) l c u
   turn-follows long l c u ways l-is c-is u-is =

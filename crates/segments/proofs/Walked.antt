@@ -2,9 +2,8 @@
 use mathlib.Core.Path.{_≡_, sym, _∙_, ap, refl, subst}
 use mathlib.Core.Bool.{Bool, true, false, cond, not, _&&_}
 use mathlib.Core.List.{List, [], _∷_, _++_, map, append-assoc}
-use Prim.Native.Nat.{ℕ, zero, suc, _+_, _≤_, _<_}
+use Prim.Native.Nat.{ℕ, zero, suc, _+_, _<_}
 use native.Mathlib.Omega.{arith}
-use lib.Dec.{eqb}
 use lib.ListN.{length, take, drop, getD}
 use Rattle.std.specs.Iters.{folded}
 use Rattle.std.specs.shelf.Lists.{All, kept-by}
@@ -12,7 +11,7 @@ use Rattle.std.specs.declared.option.Option.{Option}
 use Rattle.std.specs.declared.option.Option.the-variants.{Some, None}
 use Rattle.std.proofs.shelf.Elements.{all-append, all-push, all-take, all-drop}
 use Rattle.std.proofs.shelf.Lists.{append-nil, drop-more}
-use Rattle.std.proofs.shelf.Tests.{both-ways, eqb-true, and-from, and-left, and-right, and-parts, not-from-false, not-from-true}
+use Rattle.std.proofs.shelf.Tests.{both-ways, eqb-true, and-left, and-right, and-parts, not-from-true}
 use Rattle.outline.specs.Directions.{code, same}
 use Rattle.outline.specs.declared.directions.Direction.{Direction}
 use Rattle.outline.specs.declared.directions.Direction.the-variants as direction
@@ -20,9 +19,9 @@ use Rattle.segments.specs.declared.measures.AxisPoint.{AxisPoint}
 use Rattle.segments.specs.declared.measures.Dimension.{Dimension}
 use Rattle.segments.specs.Building.{Visit, list-of, numbered, ending, once-round, visits-of}
 use Rattle.segments.specs.Measures.{on-line}
-use Rattle.segments.specs.Rows.{visits-in, front, fronts, heading, goes, Row, all-rows, Falls, Contours-fall}
+use Rattle.segments.specs.Rows.{visits-in, front, fronts, heading, goes, Row, Contours-fall}
 use Rattle.segments.specs.Starts.{on, start-of, Last}
-use Rattle.segments.specs.Stretches.{Taken, lone, more, first-of, last-of, Stretch, Went, enters, went, Course, earlier, newest, onward, coursed, setting-out, course, course-of, stretches-of}
+use Rattle.segments.specs.Stretches.{Taken, lone, more, last-of, Stretch, Went, enters, went, Course, earlier, newest, coursed, setting-out, course, stretches-of}
 use Rattle.segments.proofs.Runs.{starts-in}
 use Rattle.segments.proofs.Visits.{length-numbered}
 use Rattle.segments.proofs.Merges.{Placed, placed-more, Sorted, placed-all}
@@ -294,7 +293,6 @@ round-is s vs d lt =
 
 pub contours-fall : Contours-fall
 contours-fall dim p q ps =
-    let qs : List AxisPoint = p ∷ q ∷ ps in
     let ns : List Visit = numbered 0 (p ∷ q ∷ ps) in
     let s : ℕ = start-of dim (p ∷ q ∷ ps) in
     let d : Visit = record { at = 0; point = p; ends = false } in

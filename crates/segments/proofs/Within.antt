@@ -7,19 +7,22 @@ use lib.ListN.{length, take, drop}
 use Rattle.std.specs.shelf.Lists.{All, Has}
 use Rattle.std.proofs.shelf.Elements.{all-append, all-drop, all-take, all-map, all-weaker, has-append-right}
 use Rattle.std.proofs.shelf.Lists.{length-map, length-drop, length-take-le, take-at}
+use Rattle.std.specs.declared.result.Result.{Result}
+use Rattle.std.specs.declared.result.Result.the-variants.{Ok, Err}
 use Rattle.outline.specs.declared.contours.Contour.{Contour}
 use Rattle.outline.specs.declared.points.Point.{Point}
+use Rattle.segments.specs.declared.faults.BuildFault.{BuildFault}
 use Rattle.segments.specs.declared.measures.AxisPoint.{AxisPoint}
 use Rattle.segments.specs.declared.measures.Dimension.{Dimension}
 use Rattle.segments.specs.declared.tables.Segment.{Segment}
 use Rattle.segments.specs.Building.{Visit, numbered, ending, once-round, visits-of}
 use Rattle.segments.specs.Laws.{Lies, Unlinked, Within}
 use Rattle.segments.specs.Measures.{seen}
-use Rattle.segments.specs.Readings.{Inside, points-of, entries-of, all-entries, Granted}
+use Rattle.segments.specs.Readings.{Inside, points-of, entries-of, all-entries, Granted, Read}
 use Rattle.segments.specs.Rows.{visits-in, Row, Group, single, then, rows-in, whole, Merged, AllMerged, all-rows, Falls}
 use Rattle.segments.specs.Segments.{segment-of}
 use Rattle.segments.specs.Starts.{start-of}
-use Rattle.segments.specs.Stretches.{Taken, lone, more, first-of, last-of, both, Stretch, summary, course-of, stretches-of, segments-of, shifted}
+use Rattle.segments.specs.Stretches.{Taken, lone, more, first-of, last-of, Stretch, summary, course-of, stretches-of, segments-of, shifted}
 use Rattle.segments.proofs.Bridge.{last-both}
 use Rattle.segments.proofs.Extents.{segments-told, ordered-told}
 use Rattle.segments.proofs.Walked.{contours-fall}
@@ -153,8 +156,12 @@ module _ (dim : Dimension) (units : ℕ) (ps : List Point) where
   all-unlinked [] = tt
   all-unlinked (d ∷ ds) = all-append Unlinked (entries-of dim units ps d) (all-entries dim units ps ds) (entries-unlinked d) (all-unlinked ds)
 
-  pub granted-within : (cs : List Contour) (t t′ : List Segment) (n : ℕ) → Inside (length ps) cs → Granted dim units ps cs t t′ n →
+  granted-within : (cs : List Contour) (t t′ : List Segment) (n : ℕ) → Inside (length ps) cs → Granted dim units ps cs t t′ n →
       All (Lies cs) (take n t′) × All Unlinked (take n t′)
   granted-within cs t t′ n i g =
       let front : take n t′ ≡ all-entries dim units ps cs = ap (take n) (g .table) ∙ take-at (all-entries dim units ps cs) _ n (sym (g .count)) in
       (subst (All (Lies cs)) (sym front) (all-lie cs cs (λ c h. h) i), subst (All Unlinked) (sym front) (all-unlinked cs))
+
+  pub read-within : (cs : List Contour) (t t′ : List Segment) (r : Result ℕ BuildFault) → Inside (length ps) cs → Read dim units ps cs t t′ r → Within cs t′ r
+  read-within cs t t′ (Ok n) i g = granted-within cs t t′ n i g
+  read-within cs t t′ (Err e) i g = tt

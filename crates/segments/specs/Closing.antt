@@ -1,5 +1,5 @@
 -- What closing a segment leaves.
-use mathlib.Core.Bool.{Bool, true, false, cond}
+use mathlib.Core.Bool.{Bool, false, cond}
 use Prim.Native.Nat.{ℕ, _-_}
 use lib.Dec.{eqb}
 use Rattle.std.specs.declared.option.Option.{Option}

@@ -13,3 +13,4 @@ pub mod Told
 pub mod Rows
 pub mod Laws
 pub mod Tried
+pub mod Refusals

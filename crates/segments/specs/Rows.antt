@@ -2,7 +2,7 @@
 use mathlib.Core.Bool.{Bool, true, false, not, _&&_}
 use mathlib.Core.List.{List, [], _∷_, _++_}
 use mathlib.Core.Path.{_≡_}
-use Prim.Native.Nat.{ℕ, _≤_, _<_}
+use Prim.Native.Nat.{_≤_, _<_}
 use Rattle.std.specs.shelf.Lists.{All, kept-by}
 use Rattle.outline.specs.Directions.{same}
 use Rattle.outline.specs.declared.directions.Direction.{Direction}

@@ -1,7 +1,7 @@
 -- A segment as a table holds it.
 use mathlib.Core.Bool.{false}
 use Prim.Native.Nat.{ℕ}
-use lib.IntN.{ℤ, pos}
+use lib.IntN.{pos}
 use Rattle.std.specs.declared.option.Option.the-variants as option
 use Rattle.outline.specs.declared.directions.Direction.the-variants as direction
 use Rattle.segments.specs.declared.states.State.{State}

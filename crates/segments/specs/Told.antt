@@ -14,7 +14,7 @@ use Rattle.segments.specs.declared.measures.AxisPoint.{AxisPoint}
 use Rattle.segments.specs.declared.tables.Segment.{Segment}
 use Rattle.segments.specs.Segments.{segment-of}
 use Rattle.segments.specs.States.{control}
-use Rattle.segments.specs.Stretches.{Taken, lone, more, first-of, last-of, Stretch, summary}
+use Rattle.segments.specs.Stretches.{Taken, lone, more, Stretch, summary}
 
 -- the points in their order, their positions and coordinates, and the coordinates of those on the curve
 abbrev pub points-in : Taken → List AxisPoint

@@ -31,7 +31,7 @@ pub struct AxisPoint {
 
 impl Dimension {
     // Whether a direction lies on the axis line.
-    pub fn holds(self, dir: Direction) -> bool
+    pub(crate) fn holds(self, dir: Direction) -> bool
         ensures { λ r. ⌜ r ≡ on-line self dir ⌝ }
     {
         match (self, dir) {
@@ -42,7 +42,7 @@ impl Dimension {
     }
 
     // The one place where the axis decides which of x and y is which.
-    pub fn read(self, point: &Point) -> AxisPoint
+    pub(crate) fn read(self, point: &Point) -> AxisPoint
         ensures { λ r. ⌜ r ≡ seen self (now (point .entry)) ⌝ }
     {
         let (position, coordinate) = match self {
@@ -59,27 +59,27 @@ impl Dimension {
 }
 
 impl Position {
-    pub fn min(self, other: Position) -> Position
+    pub(crate) fn min(self, other: Position) -> Position
         ensures { λ r. ⌜ r ≡ lesser self other ⌝ }
     {
         Position(self.0.min(other.0))
     }
 
-    pub fn max(self, other: Position) -> Position
+    pub(crate) fn max(self, other: Position) -> Position
         ensures { λ r. ⌜ r ≡ greater self other ⌝ }
     {
         Position(self.0.max(other.0))
     }
 
     // Half the sum, rounded down.
-    pub fn middle(self, other: Position) -> Position
+    pub(crate) fn middle(self, other: Position) -> Position
         ensures { λ r. ⌜ r ≡ middle self other ⌝ }
     {
         Position(((self.0 as i32 + other.0 as i32) >> 1) as i16)
     }
 
     // Half of how far `other` lies above, rounded down.
-    pub fn half_gap(self, other: Position) -> i16
+    pub(crate) fn half_gap(self, other: Position) -> i16
         ensures { λ r. ⌜ r ≡ half-gap self other ⌝ }
     {
         ((other.0 as i32 - self.0 as i32) >> 1) as i16
@@ -87,26 +87,26 @@ impl Position {
 }
 
 impl Coordinate {
-    pub fn is_below(self, other: Coordinate) -> bool
+    pub(crate) fn is_below(self, other: Coordinate) -> bool
         ensures { λ r. ⌜ r ≡ before self other ⌝ }
     {
         self.0 < other.0
     }
 
-    pub fn min(self, other: Coordinate) -> Coordinate
+    pub(crate) fn min(self, other: Coordinate) -> Coordinate
         ensures { λ r. ⌜ r ≡ nearer self other ⌝ }
     {
         Coordinate(self.0.min(other.0))
     }
 
-    pub fn max(self, other: Coordinate) -> Coordinate
+    pub(crate) fn max(self, other: Coordinate) -> Coordinate
         ensures { λ r. ⌜ r ≡ farther self other ⌝ }
     {
         Coordinate(self.0.max(other.0))
     }
 
     // How far apart the two are.
-    pub fn gap(self, other: Coordinate) -> u16
+    pub(crate) fn gap(self, other: Coordinate) -> u16
         ensures { λ r. ⌜ r ≡ gap self other ⌝ }
     {
         other.0.abs_diff(self.0)

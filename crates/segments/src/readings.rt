@@ -6,7 +6,8 @@ ghost use lib.ListN.{length, take};
 ghost use Rattle.segments.specs.Building.{Answer, built-of};
 ghost use Rattle.segments.specs.Laws.{Within};
 ghost use Rattle.segments.specs.Measures.{seen};
-ghost use Rattle.segments.specs.Readings.{Inside, points-of, blanks, Filled, Read};
+ghost use Rattle.segments.specs.Readings.{Inside, points-of, blanks, Filled, used-by, Read};
+ghost use Rattle.segments.specs.Refusals.{Justly};
 use crate::faults::BuildFault;
 use crate::measures::Dimension;
 use crate::rounds::build_contour;
@@ -70,6 +71,16 @@ fn fill(
     Ok(held)
 }
 
+// How many entries a reading uses: none, where it is refused.
+fn used(filled: &Result<usize, BuildFault>) -> usize
+    ensures { λ r. ⌜ r ≡ used-by (now (filled .entry)) ⌝ }
+{
+    match filled {
+        Ok(count) => *count,
+        Err(_) => 0,
+    }
+}
+
 // Writes the unlinked segments of an outline into the table, with blank entries after them, and answers how many.
 // A refusal leaves a blank table.
 pub fn build_segments(
@@ -83,16 +94,10 @@ pub fn build_segments(
     requires contours { ⌜ Inside (length (now points)) (now contours) ⌝ }
     requires table { ⌜ 1001 ≤ length (now table) ⌝ }
     ensures read { λ r. ⌜ Read dim (now (settings .entry) .units) (now (points .entry)) (now (contours .entry)) (now (table .entry)) (now (table .exit)) r ⌝ }
+    ensures justly { λ r. ⌜ Justly dim (now (settings .entry) .units) (now (points .entry)) (now (contours .entry)) r ⌝ }
     ensures within { λ r. ⌜ Within (now (contours .entry)) (now (table .exit)) r ⌝ }
 {
-    match fill(points, contours, dim, settings.units(), table) {
-        Ok(count) => {
-            blank_from(table, count);
-            Ok(count)
-        }
-        Err(fault) => {
-            blank_from(table, 0);
-            Err(fault)
-        }
-    }
+    let filled = fill(points, contours, dim, settings.units(), table);
+    blank_from(table, used(&filled));
+    filled
 }

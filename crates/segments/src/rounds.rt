@@ -2,6 +2,7 @@
 ghost use mathlib.Core.List.{map};
 ghost use mathlib.Core.Path.{_≡_};
 ghost use Prim.Native.Nat.{_+_, _<_, _≤_};
+ghost use lib.Dec.{ltb};
 ghost use lib.ListN.{length};
 ghost use Rattle.segments.specs.Building.{Answer, walked, visits-of, wrap-at, lone-built, built-of};
 ghost use Rattle.segments.specs.Measures.{seen};
@@ -17,6 +18,13 @@ use outline::Point;
 
 // No segment opens while more than this many are held.
 const MOST_HELD: usize = 1000;
+
+// Whether no further segment may open.
+fn is_full(count: usize) -> bool
+    ensures { λ r. ⌜ r ≡ ltb 1000 count ⌝ }
+{
+    count > MOST_HELD
+}
 
 // A place on the contour, at most once round past its end.
 fn wrap(i: usize, n: usize) -> usize
@@ -54,7 +62,7 @@ fn build_round(
         let (kept, now_held) = settle(table, count, latest, moved.closed, units);
         latest = kept;
         count = now_held;
-        if moved.opens && count > MOST_HELD {
+        if moved.opens && is_full(count) {
             return Err(BuildFault::TooManySegments);
         }
         walk = moved.walk;
@@ -75,7 +83,7 @@ fn build_lone(
     requires table { ⌜ 1001 ≤ length (now table) ⌝ }
     ensures { λ r. ⌜ Answer units held (now (table .entry)) (now (table .exit)) (lone-built first (seen dim (now (point .entry)))) r ⌝ }
 {
-    if held > MOST_HELD {
+    if is_full(held) {
         return Err(BuildFault::TooManySegments);
     }
     let state = State::open(first as u16, dim.read(point));

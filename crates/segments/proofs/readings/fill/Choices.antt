@@ -1,8 +1,3 @@
-use mathlib.Core.Path.{_≡_}
-use Prim.Native.Nat.{_≤_}
-use mathlib.Core.List.{_++_}
-use lib.ListN.{length, take, drop}
-use Rattle.segments.specs.Readings.{all-entries, overflows, Inside}
 use Rattle.segments.proofs.Contours.{Filling}
 use Rattle.segments.proofs.readings.fill.Given as given
 

@@ -1,6 +1,6 @@
 -- Where links are returned, each linked entry is in one stem.
-use mathlib.Core.Path.{_≡_, refl, sym, _∙_, ap}
-use mathlib.Core.Bool.{Bool, true, false, _&&_}
+use mathlib.Core.Path.{_≡_, refl, _∙_, ap}
+use mathlib.Core.Bool.{Bool, true, _&&_}
 use mathlib.Core.List.{List}
 use Prim.Native.Nat.{ℕ, _+_}
 use native.Mathlib.Omega.{arith}
@@ -11,7 +11,7 @@ use Rattle.std.specs.declared.option.Option.{Option}
 use Rattle.std.specs.declared.option.Option.the-variants.{None, Some}
 use Rattle.std.proofs.shelf.Ways.{tells}
 use Rattle.segments.specs.declared.tables.Segment.{Segment}
-use Rattle.card.specs.Stems.{Halves, Returned, link-at, is-index, stem, stem-count, sum-below, count-below}
+use Rattle.card.specs.Stems.{Halves, Returned, link-at, stem, stem-count, count-below}
 use Rattle.card.proofs.Sums.{one, sum-same, sum-plus, sum-swap}
 use Rattle.card.proofs.Paired.{is-same, opens-none, opens-some, closes-none, closes-some}
 

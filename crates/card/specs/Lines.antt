@@ -34,9 +34,10 @@ link-words s = round-word (s .round) ∷ decimal (s .score) ∷ index-word (s .l
 abbrev pub segment-words : Dimension → ℕ → Segment → List (List ℕ)
 segment-words d i s = axis-word d ∷ decimal i ∷ direction-word (s .dir) ∷ measure-words s ++ link-words s
 
--- a line is written where 96 bytes are there: it stands at the front, and the bytes after it stay
+-- a line is written where 96 bytes are there: it stands at the front, and the bytes after it stay;
+-- 73 bytes are enough for any segment
 abbrev pub Written : List ℕ → List ℕ → List ℕ → ℕ → Type 0
-Written line before after n = (96 ≤ length before) × (n ≡ length line) × (after ≡ line ++ drop n before)
+Written line before after n = (96 ≤ length before) × (n ≡ length line) × (n ≤ 73) × (after ≡ line ++ drop n before)
 
 -- a shorter buffer is refused, and stays
 abbrev pub Refused : List ℕ → List ℕ → CardFault → Type 0

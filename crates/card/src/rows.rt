@@ -59,7 +59,7 @@ fn put_links(line: &mut Line, segment: &Segment)
 // The line of one segment: 68 bytes and its index at most, whatever the segment holds.
 pub fn segment_line(dim: Dimension, index: usize, segment: &Segment) -> Line
     ensures bytes { λ r. ⌜ text r ≡ line-of (segment-words dim index (now (segment .entry))) ⌝ }
-    ensures bound { λ _. ⌜ length (line-of (segment-words dim index (now (segment .entry)))) ≤ 68 + length (decimal index) ⌝ }
+    ensures bound { λ r. ⌜ r .len ≤ 68 + length (decimal index) ⌝ }
 {
     let mut line = Line::new();
     put_name(&mut line, dim, index, segment);
@@ -72,7 +72,7 @@ pub fn segment_line(dim: Dimension, index: usize, segment: &Segment) -> Line
 // The same, where the index is one that links can name: at most 73 bytes.
 fn short_line(dim: Dimension, index: u16, segment: &Segment) -> Line
     ensures bytes { λ r. ⌜ text r ≡ line-of (segment-words dim index (now (segment .entry))) ⌝ }
-    ensures short { λ _. ⌜ length (line-of (segment-words dim index (now (segment .entry)))) ≤ 73 ⌝ }
+    ensures bound { λ r. ⌜ r .len ≤ 73 ⌝ }
 {
     segment_line(dim, usize::from(index), segment)
 }
@@ -92,13 +92,12 @@ pub fn card_line(
     index: u16,
     segment: &Segment,
 ) -> Result<usize, CardFault>
-    ensures cases { λ r. ⌜ Cases r (Written (line-of (segment-words dim index (now (segment .entry)))) (now (buffer .entry)) (now (buffer .exit))) (Refused (now (buffer .entry)) (now (buffer .exit))) ⌝ }
-    ensures short { λ _. ⌜ length (line-of (segment-words dim index (now (segment .entry)))) ≤ 73 ⌝ }
+    ensures { λ r. ⌜ Cases r (Written (line-of (segment-words dim index (now (segment .entry)))) (now (buffer .entry)) (now (buffer .exit))) (Refused (now (buffer .entry)) (now (buffer .exit))) ⌝ }
 {
-    let line = short_line(dim, index, segment);
     if buffer.len() < LEAST_BUFFER {
         return Err(CardFault::BufferTooShort);
     }
+    let line = short_line(dim, index, segment);
     let bytes = line.as_bytes();
     put_front(buffer, bytes);
     Ok(bytes.len())

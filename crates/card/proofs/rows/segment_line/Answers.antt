@@ -1,11 +1,8 @@
-use borrow.Author.Needs.{needs}
 use native.Mathlib.Omega.{arith}
-use mathlib.Core.Path.{_≡_, ap}
+use mathlib.Core.Path.{_≡_}
 use mathlib.Core.List.{[], _∷_}
-use lib.ListN.{length}
 use Rattle.std.specs.Written.{decimal}
 use Rattle.card.proofs.Spelt.{digits}
-use Rattle.std.proofs.shelf.Lists.{length-take}
 use Rattle.card.specs.Held.{text}
 use Rattle.card.specs.Words.{axis-word, direction-word}
 use Rattle.card.specs.Lines.{line-of, link-words, measure-words, segment-words}
@@ -33,4 +30,4 @@ returns c =
     line-of-parts (axis-word (c .args .dim)) (decimal (c .args .index) ∷ direction-word (s .dir) ∷ []) (measure-words s) (link-words s)
     _ _ _ _ (text l)
     (c .new-line .ensures .bytes) (c .put-name .ensures .bytes) (c .put-measures .ensures .bytes) (c .put-links .ensures .bytes) (c .push .ensures .bytes) in
-    record { bytes = e; bound = omega (arith, ap length e, length-take (l .len) (l .bytes)) }
+    record { bytes = e; bound = omega arith }

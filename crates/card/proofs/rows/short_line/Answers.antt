@@ -11,6 +11,5 @@ pub returns : need.returns
 returns c =
     let d = length-decimal-le 5 (c .args .index) (omega arith) (omega arith) (omega arith) in
     let e = ap (λ (n : ℕ). line-of (segment-words (c .args .dim) n (c .args .segment .now))) (c .from .ensures) in
-    let l = ap length e in
     let k = ap (λ (n : ℕ). length (decimal n)) (c .from .ensures) in
-    record { bytes = c .segment-line .ensures .bytes ∙ e; short = omega arith }
+    record { bytes = c .segment-line .ensures .bytes ∙ e; bound = omega arith }

@@ -1,5 +1,5 @@
 use native.Mathlib.Omega.{arith}
-use mathlib.Core.Path.{_≡_, _∙_, ap, sym}
+use mathlib.Core.Path.{_∙_, ap, sym}
 use mathlib.Core.List.{_∷_, _++_}
 use Prim.Native.Nat.{ℕ}
 use Rattle.std.specs.Written.{decimal}

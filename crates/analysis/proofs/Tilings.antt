@@ -1,7 +1,7 @@
 -- Contours one after another: one turn of a loop over them.
-use mathlib.Core.Path.{_≡_, refl, sym, ap, subst, _∙_}
+use mathlib.Core.Path.{_≡_, refl, subst, _∙_}
 use mathlib.Core.Bool.{Bool}
-use mathlib.Core.List.{List, [], _∷_, _++_, map, append-assoc}
+use mathlib.Core.List.{List, [], _∷_, _++_, append-assoc}
 use Prim.Native.Nat.{ℕ, _+_, _-_, _*_, _^_, _<_, _≤_}
 use native.Mathlib.Omega.{arith}
 use lib.IntN.{ℤ, pos, natAbs, _+ℤ_}
@@ -17,6 +17,7 @@ use Rattle.analysis.specs.Records.{analysed, records, record-at, marks-of}
 use Rattle.analysis.specs.Outlines.{Tiles, points-of, cut-out, outline-records, replaced, Stand-alone}
 use Rattle.analysis.specs.Areas.{contour-area, total-area}
 use Rattle.analysis.proofs.Fills.{alone}
+use Rattle.analysis.proofs.Turns.{grouped}
 
 -- what is left of the contours begins at b, and goes up to n
 pub tiles-le : (b n : ℕ) (cs : List Contour) → Tiles b n cs → b ≤ n
@@ -155,9 +156,6 @@ summed-none ps cs t = record { from = 0; tiles = t; so-far = omega (arith, ints)
 area-first : (qs : List DrawnPoint) (css : List (List DrawnPoint)) → total-area (qs ∷ css) ≡ contour-area qs +ℤ total-area css
 unfolding total-area
 area-first qs css = refl
-
-grouped : (a b c : ℤ) → (a +ℤ b) +ℤ c ≡ a +ℤ (b +ℤ c)
-grouped a b c = omega (arith, ints)
 
 -- one more contour's terms are added
 pub summed-more : (ps : List DrawnPoint) (cs : List Contour) (sum sum′ : ℤ) (k : ℕ) (d : Contour) → k < length cs → Summed ps cs sum k

@@ -1,9 +1,9 @@
 -- One turn of the sum of a contour's terms.
-use mathlib.Core.Path.{_≡_, refl, sym, ap, _∙_}
+use mathlib.Core.Path.{_≡_, ap, _∙_}
 use mathlib.Core.List.{List, [], _∷_}
 use Prim.Native.Nat.{ℕ, _+_, _<_, _≤_}
 use native.Mathlib.Omega.{arith}
-use lib.IntN.{ℤ, pos, _+ℤ_}
+use lib.IntN.{ℤ, _+ℤ_}
 use lib.ListN.{length, getD, drop}
 use Rattle.std.proofs.shelf.Lists.{drop-more, drop-all}
 use Rattle.std.proofs.shelf.Signed.{ints}
@@ -25,7 +25,7 @@ turned-is a p s₀ x₀ y₀ s t x y e₁ e₂ e₃ e₄ e₅ e₆ e₇ =
     let u : t ≡ term (a .x) (a .y) (p .x) (p .y) = e₅ ∙ ap (λ (v : ℤ). term (a .x) (a .y) v y) e₆ ∙ ap (λ (v : ℤ). term (a .x) (a .y) (p .x) v) e₇ in
     area-same _ _ _ _ _ _ (e₁ ∙ e₄ ∙ ap (λ (v : ℤ). a .sum +ℤ v) u) (e₂ ∙ e₆) (e₃ ∙ e₇)
 
-grouped : (a b c : ℤ) → (a +ℤ b) +ℤ c ≡ a +ℤ (b +ℤ c)
+pub grouped : (a b c : ℤ) → (a +ℤ b) +ℤ c ≡ a +ℤ (b +ℤ c)
 grouped a b c = omega (arith, ints)
 
 -- what is left of the points gives what is left of the sum

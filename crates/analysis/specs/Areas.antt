@@ -1,7 +1,7 @@
 -- The area that contours enclose, twice, with its sign (FT_Outline_Get_Orientation).
 use mathlib.Core.Bool.{cond}
 use mathlib.Core.List.{List, [], _∷_}
-use Prim.Native.Nat.{ℕ, _-_}
+use Prim.Native.Nat.{_-_}
 use lib.IntN.{ℤ, pos, _+ℤ_, _-ℤ_, _*ℤ_}
 use lib.Signed.{ltZ}
 use lib.ListN.{length, getD}
@@ -22,6 +22,7 @@ unfoldable pub terms : ℤ → ℤ → List DrawnPoint → ℤ
 terms x′ y′ [] = pos 0
 terms x′ y′ (p ∷ ps) = term x′ y′ (p .x) (p .y) +ℤ terms (p .x) (p .y) ps
 
+-- the last point of a contour
 abbrev pub last-of : List DrawnPoint → DrawnPoint
 last-of ps = getD ps (length ps - 1) origin
 

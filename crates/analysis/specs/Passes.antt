@@ -50,6 +50,7 @@ bypass i m ms = join (m .v) (m .u) (weaken i ms)
 abbrev pub same-sign : ℤ → ℤ → Bool
 same-sign a b = cond (ltZ a (pos 0)) (ltZ b (pos 0)) (not (ltZ b (pos 0)))
 
+-- x of both and y of both have the same sign
 abbrev pub same-quadrant : Step → Step → Bool
 same-quadrant s t = same-sign (s .dx) (t .dx) && same-sign (s .dy) (t .dy)
 
@@ -61,12 +62,15 @@ is-open m = not (m .weak) && undirected m
 abbrev pub is-straight : List DrawnPoint → ℕ → Mark → Bool
 is-straight ps i m = is-open m && same-quadrant (inward ps i m) (outward ps i m)
 
+-- the first pass at point i
 unfoldable pub simplified-at : List DrawnPoint → ℕ → List Mark → List Mark
 simplified-at ps i ms = cond (is-straight ps i (getD ms i blank)) (bypass i (getD ms i blank) ms) ms
 
+-- the first pass over all points
 unfoldable pub simplified : List DrawnPoint → List Mark → List Mark
 simplified ps ms = passed (simplified-at ps) (length ps) ms
 
+-- the point lies on the curve
 abbrev pub on-curve : PointKind → Bool
 on-curve Control = false
 on-curve OnCurve = true
@@ -91,13 +95,16 @@ judged F ps i m =
     (cond (undirected m) (judged-corner F ps i m)
     (judged-directed (m .«in_dir») (m .«out_dir»))))
 
+-- the marks after a verdict on point i, whose mark is m
 abbrev pub applied : Verdict → ℕ → Mark → List Mark → List Mark
 applied Keep i m ms = ms
 applied Weaken i m ms = weaken i ms
 applied Bypass i m ms = bypass i m ms
 
+-- the second pass at point i
 unfoldable pub checked-at : (ℤ → ℤ → ℤ → ℤ → Bool) → List DrawnPoint → ℕ → List Mark → List Mark
 checked-at F ps i ms = applied (judged F ps i (getD ms i blank)) i (getD ms i blank) ms
 
+-- the second pass over all points
 unfoldable pub checked : (ℤ → ℤ → ℤ → ℤ → Bool) → List DrawnPoint → List Mark → List Mark
 checked F ps ms = passed (checked-at F ps) (length ps) ms

@@ -8,7 +8,6 @@ use lib.ListN.{length, getD, replicate}
 use Rattle.std.specs.Iters.{counting}
 use Rattle.outline.specs.declared.points.DrawnPoint.{DrawnPoint}
 use Rattle.outline.specs.declared.points.Point.{Point}
-use Rattle.outline.specs.declared.points.PointFlags.{PointFlags}
 use Rattle.walk.specs.declared.marks.Mark.{Mark}
 use Rattle.walk.specs.Steps.{origin, following, leaving, taxicab}
 use Rattle.walk.specs.Marks.{blank, walked}
@@ -38,6 +37,7 @@ record-at N b ps ms i = record {
   «prev_ix» = b + preceding (length ps) i;
 }
 
+-- the records of all points of a contour, whose marks are ms
 unfoldable pub records : ℕ → ℕ → List DrawnPoint → List Mark → List Point
 records N b ps ms = map (record-at N b ps ms) (counting 0 (length ps))
 

@@ -1,7 +1,7 @@
 // The area that contours enclose, twice, with its sign, and the way round that they are drawn.
 ghost use mathlib.Core.Path.{_≡_};
-ghost use Prim.Native.Nat.{ℕ, _+_, _-_, _*_, _<_, _≤_, _^_};
-ghost use lib.IntN.{ℤ, natAbs, pos, _+ℤ_, _-ℤ_, _*ℤ_};
+ghost use Prim.Native.Nat.{_+_, _*_, _<_, _≤_, _^_};
+ghost use lib.IntN.{natAbs, _+ℤ_, _-ℤ_, _*ℤ_};
 ghost use lib.ListN.{length};
 ghost use Rattle.analysis.specs.Outlines.{Tiles, points-of, cut-out};
 ghost use Rattle.analysis.specs.Areas.{term, entered, turned, contour-area, total-area, orientation-of};

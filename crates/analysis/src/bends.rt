@@ -1,6 +1,6 @@
 // What both passes over a contour's points share: a point's two vectors, and passing it by.
 ghost use mathlib.Core.Path.{_≡_};
-ghost use Prim.Native.Nat.{ℕ, _<_};
+ghost use Prim.Native.Nat.{_<_};
 ghost use lib.ListN.{length};
 ghost use Rattle.analysis.specs.Passes.{Linked, inward, outward, undirected, bypass};
 use outline::Direction;

@@ -1,7 +1,7 @@
 // The analysis of one contour.
 ghost use mathlib.Core.Path.{_≡_};
 ghost use mathlib.Core.List.{map};
-ghost use Prim.Native.Nat.{ℕ, _+_, _<_, _≤_};
+ghost use Prim.Native.Nat.{_+_, _<_, _≤_};
 ghost use lib.ListN.{length, replicate};
 ghost use Rattle.outline.specs.Units.{near-limit};
 ghost use Rattle.walk.specs.Marks.{blank};

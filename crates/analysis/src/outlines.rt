@@ -1,6 +1,6 @@
 // The analysis of a list of contours.
 ghost use mathlib.Core.Path.{_≡_};
-ghost use Prim.Native.Nat.{ℕ, _+_, _-_, _<_, _≤_};
+ghost use Prim.Native.Nat.{_<_, _≤_};
 ghost use lib.ListN.{length};
 ghost use Rattle.outline.specs.Units.{near-limit};
 ghost use Rattle.analysis.specs.Outlines.{Tiles, cut-out, outline-records, replaced, Stand-alone};

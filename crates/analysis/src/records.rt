@@ -1,6 +1,6 @@
 // The records of a contour's points.
 ghost use mathlib.Core.Path.{_≡_};
-ghost use Prim.Native.Nat.{ℕ, _+_, _-_, _<_, _≤_};
+ghost use Prim.Native.Nat.{_+_, _<_, _≤_};
 ghost use lib.ListN.{length};
 ghost use Rattle.analysis.specs.Records.{preceding, is-near, record-at, records};
 use outline::DrawnPoint;

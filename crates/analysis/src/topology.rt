@@ -1,7 +1,6 @@
 // The first pass: points that lie on the way between their neighbours turn weak.
 ghost use mathlib.Core.Path.{_≡_};
-ghost use mathlib.Core.Bool.{true, false, cond};
-ghost use Prim.Native.Nat.{ℕ, _<_};
+ghost use Prim.Native.Nat.{_<_};
 ghost use lib.ListN.{length};
 ghost use Rattle.std.specs.shelf.Lists.{All};
 ghost use Rattle.analysis.specs.Passes.{Linked, same-sign, same-quadrant, is-open, is-straight, simplified-at, simplified};

@@ -1,7 +1,6 @@
 // The second pass: control points, points inside a line, spikes and flat corners turn weak.
 ghost use mathlib.Core.Path.{_≡_};
-ghost use mathlib.Core.Bool.{true, false, cond};
-ghost use Prim.Native.Nat.{ℕ, _<_};
+ghost use Prim.Native.Nat.{_<_};
 ghost use lib.ListN.{length};
 ghost use Rattle.std.specs.shelf.Lists.{All};
 ghost use Rattle.analysis.specs.Passes.{Linked, on-curve, judged-directed, judged-corner, judged, applied, checked-at, checked};

@@ -2,12 +2,12 @@
 use mathlib.Core.Path.{_≡_, refl, sym, ap, _∙_}
 use mathlib.Core.Bool.{Bool, true, false, cond}
 use mathlib.Core.List.{List}
-use Prim.Native.Nat.{ℕ, zero, suc, _+_, _-_, _<_, _≤_}
+use Prim.Native.Nat.{ℕ, suc, _-_, _<_}
 use native.Mathlib.Omega.{arith}
 use lib.ListN.{length}
 use Rattle.std.proofs.shelf.Tests.{cond-true, cond-false, and-parts, ltb-true}
 use Rattle.outline.specs.declared.points.DrawnPoint.{DrawnPoint}
-use Rattle.walk.specs.Starts.{goes-back, is-short, stepped-back, start-of, wrap}
+use Rattle.walk.specs.Starts.{goes-back, stepped-back, start-of, wrap}
 use Rattle.walk.specs.Legs.{cuts, spread}
 use Rattle.walk.specs.Steps.{no-step, steps-from}
 use Rattle.walk.specs.declared.legs.Leg.{Leg}

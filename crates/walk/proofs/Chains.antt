@@ -1,17 +1,17 @@
 -- The ends that a walk finds, and their u and v once it has gone round.
 use mathlib.Core.Path.{_≡_, refl, sym, ap, subst, _∙_}
-use mathlib.Core.Bool.{Bool, true, false, cond, not}
+use mathlib.Core.Bool.{true, false, cond, not}
 use mathlib.Core.Logic.{_⊎_, inl, inr}
 use mathlib.Core.List.{List, [], _∷_, _++_}
-use Prim.Native.Nat.{ℕ, zero, suc, _+_, _<_, _≤_}
+use Prim.Native.Nat.{ℕ, zero, suc, _<_, _≤_}
 use native.Mathlib.Omega.{arith}
-use lib.ListN.{length, getD}
+use lib.ListN.{length}
 use Rattle.std.specs.Orderings.{Decides}
 use Rattle.std.specs.shelf.Lists.{Has}
-use Rattle.std.proofs.shelf.Tests.{cond-true, cond-false, cond-both, cases-bool, cases-lt, cases-eq, not-true, not-false, not-from-true, not-from-false, both-ways}
+use Rattle.std.proofs.shelf.Tests.{cond-true, cond-false, cond-both, cases-bool, cases-eq, not-from-true, not-from-false, both-ways}
 use Rattle.walk.specs.declared.legs.Leg.{Leg}
 use Rattle.walk.specs.declared.marks.Mark.{Mark}
-use Rattle.walk.specs.Marks.{blank, at, join, stepped, last-end, dealt, with-u, with-v}
+use Rattle.walk.specs.Marks.{at, join, stepped, last-end, dealt}
 use Rattle.walk.specs.Ends.{mark, first-or, last-or}
 use Rattle.walk.proofs.Places.{place, place-lt, place-none, apart}
 use Rattle.walk.proofs.Rounds.{round, round-keeps, join-u, join-v, length-join, length-stepped, length-dealt, first-weak}

@@ -1,23 +1,21 @@
 -- What the marks say after the walk.
 use mathlib.Core.Path.{_≡_, refl, sym, ap, subst, _∙_}
-use mathlib.Core.Bool.{true, not}
-use mathlib.Core.Logic.{_⊎_, inl, inr}
+use mathlib.Core.Bool.{true}
+use mathlib.Core.Logic.{inl, inr}
 use mathlib.Core.List.{List, [], _∷_, _++_}
 use Prim.Native.Nat.{ℕ, zero, suc, _<_, _≤_}
 use native.Mathlib.Omega.{arith}
 use lib.ListN.{length}
-use Rattle.std.specs.Orderings.{Decides}
 use Rattle.std.specs.shelf.Lists.{Has}
 use Rattle.std.proofs.shelf.Tests.{cond-both, ltb-true}
 use Rattle.outline.specs.declared.directions.Direction.the-variants.{None}
 use Rattle.outline.specs.declared.points.DrawnPoint.{DrawnPoint}
 use Rattle.walk.specs.declared.legs.Leg.{Leg}
 use Rattle.walk.specs.declared.marks.Mark.{Mark}
-use Rattle.walk.specs.Steps.{following}
 use Rattle.walk.specs.Starts.{start-of}
 use Rattle.walk.specs.Legs.{spread}
 use Rattle.walk.specs.Marks.{walked, dealt-all}
-use Rattle.walk.specs.Ends.{ends-of, ends-from, first-or, last-or, direction-to, mark, Walked-round}
+use Rattle.walk.specs.Ends.{ends-of, ends-from, mark, Walked-round}
 use Rattle.walk.proofs.Places.{place, place-all, place-none, place-next, placed, left-from}
 use Rattle.walk.proofs.Rounds.{round, dealt-round}
 use Rattle.walk.proofs.Chains.{leg-ends, chain, start-end, start-none, ends-strong}

@@ -1,17 +1,16 @@
 -- What the marks of a point are once the walk has gone round.
 use mathlib.Core.Path.{_≡_, refl, sym, ap, _∙_}
-use mathlib.Core.Bool.{Bool, true, false, cond, not}
-use mathlib.Core.Logic.{_⊎_, inl, inr}
+use mathlib.Core.Bool.{Bool, not}
+use mathlib.Core.Logic.{inl, inr}
 use mathlib.Core.List.{List, [], _∷_}
-use Prim.Native.Nat.{ℕ, zero, suc, _+_, _<_, _≤_}
+use Prim.Native.Nat.{ℕ, suc, _<_, _≤_}
 use native.Mathlib.Omega.{arith}
-use lib.ListN.{length, getD, set, length-set}
+use lib.ListN.{length, getD, length-set}
 use Rattle.std.proofs.shelf.Lists.{getD-set-same, getD-set-other, getD-past}
-use Rattle.std.proofs.shelf.Tests.{cond-true, cond-false, cond-both, cases-eq, cases-lt}
+use Rattle.std.proofs.shelf.Tests.{cond-both, cases-eq, cases-lt}
 use Rattle.outline.specs.declared.directions.Direction.{Direction}
 use Rattle.walk.specs.declared.legs.Leg.{Leg}
 use Rattle.walk.specs.declared.marks.Mark.{Mark}
-use Rattle.walk.specs.Steps.{following}
 use Rattle.walk.specs.Marks.{blank, at, join, stepped, last-end, dealt, dealt-all, with-u, with-v, with-weak, with-in, with-out}
 use Rattle.walk.specs.Ends.{mark}
 use Rattle.walk.proofs.Places.{place, place-next, place-lt, apart}

@@ -1,7 +1,7 @@
 -- One turn of the way back, at j.
-use mathlib.Core.Path.{_≡_, refl, sym, ap, _∙_}
-use mathlib.Core.List.{List, [], _∷_, _++_}
-use Prim.Native.Nat.{ℕ, zero, suc, _+_, _-_, _<_, _≤_}
+use mathlib.Core.Path.{_≡_, refl, sym, ap}
+use mathlib.Core.List.{List, [], _∷_}
+use Prim.Native.Nat.{ℕ, _+_, _<_, _≤_}
 use native.Mathlib.Omega.{arith}
 use lib.ListN.{length, take, drop, set, getD}
 use Rattle.std.proofs.shelf.Lists.{take-set, take-take, drop-set, drop-more, drop-all, getD-take}
@@ -16,7 +16,7 @@ pub record Back (ls ms : List Leg) (k : ℕ) (dir : Direction) : Type 0 where
   pub back : drop k ms ≡ spread (drop k ls)
   pub first : dir ≡ first-dir (spread (drop k ls))
 
-spread-cons : (l : Leg) (ls : List Leg) → spread (l ∷ ls) ≡ in-sum (first-dir (spread ls)) l ∷ spread ls
+pub spread-cons : (l : Leg) (ls : List Leg) → spread (l ∷ ls) ≡ in-sum (first-dir (spread ls)) l ∷ spread ls
 unfolding spread
 spread-cons l ls = refl
 

@@ -1,16 +1,15 @@
 -- A sum of steps is the vector from where it began.
 use mathlib.Core.Path.{_≡_, refl, sym, ap, subst, _∙_}
-use mathlib.Core.Bool.{Bool, true, false, cond}
-use mathlib.Core.Logic.{_⊎_, inl, inr}
+use mathlib.Core.Bool.{true, false, cond}
+use mathlib.Core.Logic.{inl, inr}
 use mathlib.Core.List.{List, [], _∷_}
 use Prim.Native.Nat.{ℕ, zero, suc, _<_, _≤_}
 use native.Mathlib.Omega.{arith}
 use lib.Dec.{ltb}
-use lib.IntN.{ℤ, pos, _+ℤ_, _-ℤ_}
+use lib.IntN.{ℤ}
 use lib.ListN.{length, getD}
 use Rattle.std.proofs.shelf.Signed.{ints}
 use Rattle.std.proofs.shelf.Tests.{cond-true, cond-false, cases-bool, false≢true}
-use Rattle.outline.specs.declared.directions.Direction.{Direction}
 use Rattle.outline.specs.declared.points.DrawnPoint.{DrawnPoint}
 use Rattle.outline.specs.Directions.{direction}
 use Rattle.walk.specs.declared.steps.Step.{Step}
@@ -19,6 +18,7 @@ use Rattle.walk.specs.Steps.{origin, following, step-of, vector, leaving, step
 use Rattle.walk.specs.Legs.{no-leg, leg-of, rest-of, cuts, first-dir, in-sum, spread}
 use Rattle.walk.specs.Marks.{last-end}
 use Rattle.walk.specs.Ends.{ends-from, direction-to, added, arrived, Sums-are-vectors}
+use Rattle.walk.proofs.Spreads.{spread-cons}
 use Rattle.walk.proofs.Places.{place, place-next}
 use Rattle.walk.proofs.Chains.{leg-ends, ends-more, ends-same}
 use Rattle.walk.proofs.Directed.{Direct}
@@ -114,10 +114,6 @@ module _ (N : ℕ) (ps : List DrawnPoint) (s : ℕ) (in-s : s < length ps) where
       ≡ cond (ltb (taxicab (vector ps a (spot m))) N) (ends-from N ps a (spot m) m) (spot m ∷ ends-from N ps (spot m) (spot m) m)
   unfolding ends-from
   ends-next a m fits = rw (place-next (length ps) s m in-s fits) refl
-
-  spread-cons : (l : Leg) (ls : List Leg) → spread (l ∷ ls) ≡ in-sum (first-dir (spread ls)) l ∷ spread ls
-  unfolding spread
-  spread-cons l ls = refl
 
   legs-on : (a m : ℕ) → suc m ≤ length ps → On a m
       → legs-from a (suc m) ≡ record { dir = first-dir (legs-from a m); end = false } ∷ legs-from a m

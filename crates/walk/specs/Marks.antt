@@ -12,6 +12,7 @@ use Rattle.walk.specs.Steps.{following, steps-from, no-step}
 use Rattle.walk.specs.Starts.{start-of}
 use Rattle.walk.specs.Legs.{cuts, spread}
 
+-- the mark of a point before the analysis
 abbrev pub blank : Mark
 blank = record { weak = false; «in_dir» = None; «out_dir» = None; u = 0; v = 0 }
 

@@ -15,14 +15,15 @@ is-short N ps i = ltb (taxicab (leaving ps i) + 1) (2 * N)
 abbrev pub goes-back : ℕ → List DrawnPoint → ℕ → Bool
 goes-back N ps i = ltb 0 i && is-short N ps i
 
--- stepping back from a point; the count of the points stands for the first point
+-- where stepping back from a point ends; the count of the points stands for the first point
 unfoldable pub stepped-back : ℕ → List DrawnPoint → ℕ → ℕ
 stepped-back N ps zero = zero
 stepped-back N ps (suc i) = cond (goes-back N ps i) (stepped-back N ps i) (suc i)
 
+-- the count of n points stands for the first point
 abbrev pub wrap : ℕ → ℕ → ℕ
 wrap n i = cond (ltb i n) i 0
 
--- s
+-- s, the point where the walk starts
 unfoldable pub start-of : ℕ → List DrawnPoint → ℕ
 start-of N ps = wrap (length ps) (stepped-back N ps (length ps))

@@ -4,7 +4,7 @@ use mathlib.Core.List.{List, [], _∷_}
 use Prim.Native.Nat.{ℕ, zero, suc, _+_}
 use lib.Dec.{ltb}
 use lib.ListN.{length, getD}
-use lib.IntN.{ℤ, pos, natAbs, _+ℤ_, _-ℤ_}
+use lib.IntN.{pos, natAbs, _+ℤ_, _-ℤ_}
 use Rattle.outline.specs.declared.points.DrawnPoint.{DrawnPoint}
 use Rattle.outline.specs.declared.points.PointKind.the-variants.{Control}
 use Rattle.walk.specs.declared.steps.Step.{Step}
@@ -38,6 +38,7 @@ steps-from ps i (suc m) = leaving ps i ∷ steps-from ps (following (length ps) 
 abbrev pub no-step : Step
 no-step = record { dx = pos 0; dy = pos 0 }
 
+-- one step after another
 abbrev pub plus : Step → Step → Step
 plus s t = record { dx = s .dx +ℤ t .dx; dy = s .dy +ℤ t .dy }
 

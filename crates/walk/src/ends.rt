@@ -1,6 +1,6 @@
 // The walk as a whole.
 ghost use mathlib.Core.Path.{_≡_};
-ghost use Prim.Native.Nat.{ℕ, _<_};
+ghost use Prim.Native.Nat.{_<_};
 ghost use lib.ListN.{length};
 ghost use Rattle.outline.specs.Units.{near-limit};
 ghost use Rattle.walk.specs.Ends.{Walked-round, Sums-are-vectors};

@@ -1,6 +1,6 @@
 // Sums of steps round a contour.
 ghost use mathlib.Core.Path.{_≡_};
-ghost use Prim.Native.Nat.{ℕ, _<_, _≤_, _^_};
+ghost use Prim.Native.Nat.{_<_, _≤_, _^_};
 ghost use lib.ListN.{length};
 ghost use Rattle.walk.specs.Steps.{steps-from, no-step, taxicab};
 ghost use Rattle.walk.specs.Legs.{leg-of, rest-of, cuts, in-sum, spread, no-leg};

@@ -1,6 +1,6 @@
 // The working marks of a contour's points.
 ghost use mathlib.Core.Path.{_≡_};
-ghost use Prim.Native.Nat.{ℕ, _<_};
+ghost use Prim.Native.Nat.{_<_};
 ghost use lib.ListN.{length};
 ghost use Rattle.walk.specs.Marks.{blank, join, stepped, last-end, dealt, dealt-all};
 use crate::legs::Leg;

@@ -1,6 +1,6 @@
 // Where the walk round a contour starts.
 ghost use mathlib.Core.Path.{_≡_};
-ghost use Prim.Native.Nat.{ℕ, _<_, _≤_, _^_};
+ghost use Prim.Native.Nat.{_<_, _≤_, _^_};
 ghost use lib.ListN.{length};
 ghost use Rattle.walk.specs.Starts.{goes-back, wrap, start-of};
 use crate::steps::step_at;

@@ -1,9 +1,8 @@
 // Steps from point to point, in font units.
 ghost use mathlib.Core.Path.{_≡_};
-ghost use mathlib.Core.Bool.{cond};
-ghost use Prim.Native.Nat.{ℕ, _+_, _<_, _≤_, _^_};
-ghost use lib.IntN.{ℤ, natAbs, _+ℤ_, _-ℤ_};
-ghost use lib.ListN.{length, getD};
+ghost use Prim.Native.Nat.{_<_, _≤_, _^_};
+ghost use lib.IntN.{natAbs, _+ℤ_, _-ℤ_};
+ghost use lib.ListN.{length};
 ghost use Rattle.walk.specs.Steps.{following, step-of, leaving, plus, taxicab};
 use outline::DrawnPoint;
 

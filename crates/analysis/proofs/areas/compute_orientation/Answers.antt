@@ -1,6 +1,5 @@
-use mathlib.Core.Path.{_≡_, ap, _∙_}
+use mathlib.Core.Path.{ap, _∙_}
 use native.Mathlib.Omega.{arith}
-use borrow.Author.Needs.{needs}
 use Rattle.analysis.specs.Areas.{orientation-of}
 use Rattle.analysis.proofs.Tilings.{turn, summed-none, summed-more, summed-all}
 use Rattle.analysis.proofs.areas.compute_orientation.Needs as need

@@ -1,5 +1,4 @@
 use native.Mathlib.Omega.{arith}
-use borrow.Author.Needs.{needs}
 use Rattle.analysis.proofs.Tilings.{turn, written-none, written-more, written-all, stand-alone}
 use Rattle.analysis.proofs.outlines.analyze_outline.Needs as need
 

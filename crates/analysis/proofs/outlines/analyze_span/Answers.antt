@@ -1,6 +1,5 @@
-use mathlib.Core.Path.{_≡_, _∙_, sym}
+use mathlib.Core.Path.{_∙_, sym}
 use native.Mathlib.Omega.{arith}
-use borrow.Author.Needs.{needs}
 use Prim.Native.Nat.{_-_}
 use Rattle.analysis.proofs.Ranges.{range-long, front-long, put-range}
 use Rattle.analysis.proofs.outlines.analyze_span.Needs as need

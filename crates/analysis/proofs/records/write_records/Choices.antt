@@ -1,7 +1,6 @@
 use mathlib.Core.Path.{_≡_}
 use Prim.Native.Nat.{ℕ, _<_}
 use lib.ListN.{getD}
-use Rattle.outline.specs.declared.points.Point.{Point}
 use Rattle.analysis.specs.Records.{record-at}
 use Rattle.analysis.proofs.records.write_records.Given as given
 

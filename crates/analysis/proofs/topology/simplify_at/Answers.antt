@@ -1,6 +1,5 @@
 use native.Mathlib.Omega.{arith}
 use borrow.Author.Needs.{needs}
-use mathlib.Core.Path.{_≡_}
 use lib.ListN.{length}
 use Rattle.analysis.proofs.Links.{linked-one}
 use Rattle.analysis.proofs.Passing.{simplified-yes, simplified-no}

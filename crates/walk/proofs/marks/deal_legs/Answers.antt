@@ -1,5 +1,4 @@
 use mathlib.Core.Path.{_∙_}
-use native.Mathlib.Omega.{arith}
 use borrow.Author.Needs.{needs}
 use Rattle.walk.proofs.Deals.{dealt-more, dealt-done}
 use Rattle.walk.proofs.marks.deal_legs.Needs as need

@@ -23,7 +23,7 @@ use Rattle.segments.specs.declared.measures.Dimension.the-variants.{Horizontal
 use Rattle.segments.specs.declared.measures.Position.{Position}
 use Rattle.segments.specs.declared.states.Reach.{Reach}
 use Rattle.segments.specs.declared.tables.Segment.{Segment}
-use Rattle.segments.specs.Laws.{Alike, Likes-read-alike, Holds, Contours-alone, lone-segment, Lone-told}
+use Rattle.segments.specs.Laws.{Alike, Alike-read-same, Holds, Contours-alone, lone-segment, Lone-told}
 use Rattle.segments.specs.Measures.{across, along, seen}
 use Rattle.segments.specs.States.{control, short}
 use Rattle.segments.specs.Readings.{points-of, entries-of, all-entries, blanks, Granted}
@@ -41,9 +41,9 @@ all-seen dim (p ∷ ps) [] a = absurd a
 all-seen dim (p ∷ ps) (q ∷ qs) a =
     ap (λ (x : AxisPoint). x ∷ map (seen dim) ps) (seen-alike dim p q (a .0)) ∙ ap (λ (r : List AxisPoint). seen dim q ∷ r) (all-seen dim ps qs (a .1))
 
-pub likes-read-alike : Likes-read-alike
+pub alike-read-same : Alike-read-same
 unfolding segments-of most-of
-likes-read-alike dim units ps qs a = (
+alike-read-same dim units ps qs a = (
   ap (λ (r : List AxisPoint). map (λ s. segment-of units (summary 0 s)) (stretches-of (course-of dim r))) (all-seen dim ps qs a),
   ap (λ (r : List AxisPoint). course-of dim r .room) (all-seen dim ps qs a),
 )
@@ -75,7 +75,7 @@ module _ (dim : Dimension) (units : ℕ) (ps : List Point) where
 pub contours-alone : Contours-alone
 contours-alone dim units ps qs cs cs′ ds ds′ c d t t′ u u′ n m g h a =
     let same : segments-of dim units (points-of qs d) ≡ segments-of dim units (points-of ps c)
-    = sym (likes-read-alike dim units (points-of ps c) (points-of qs d) a .0) in (
+    = sym (alike-read-same dim units (points-of ps c) (points-of qs d) a .0) in (
       segments-of dim units (points-of ps c),
       holds dim units ps cs cs′ c t t′ n g,
       subst (Holds u′ (length (all-entries dim units qs ds)) d) same (holds dim units qs ds ds′ d u u′ m h),

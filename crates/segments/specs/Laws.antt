@@ -49,8 +49,8 @@ pub record Alike (p q : Point) : Type 0 where
   pub leaves : p .«out_dir» ≡ q .«out_dir»
 
 -- points that are alike have the same segments, counted from their start, and as many at once
-abbrev pub Likes-read-alike : Type 0
-Likes-read-alike = (dim : Dimension) (units : ℕ) (ps qs : List Point) → Each Alike ps qs →
+abbrev pub Alike-read-same : Type 0
+Alike-read-same = (dim : Dimension) (units : ℕ) (ps qs : List Point) → Each Alike ps qs →
     (segments-of dim units ps ≡ segments-of dim units qs) × (most-of dim ps ≡ most-of dim qs)
 
 -- from place k on the table holds the segments es, moved to the contour's place

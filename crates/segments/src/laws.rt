@@ -1,5 +1,5 @@
 // The laws of a reading. Each is proved of the definitions that `build_segments` is proved equal to.
-ghost use Rattle.segments.specs.Laws.{Likes-read-alike, Contours-alone, Lone-told};
+ghost use Rattle.segments.specs.Laws.{Alike-read-same, Contours-alone, Lone-told};
 ghost use Rattle.segments.specs.Rows.{Contours-fall};
 ghost use Rattle.segments.specs.Starts.{Starts-told};
 ghost use Rattle.segments.specs.Told.{Segments-told};
@@ -7,7 +7,7 @@ ghost use Rattle.segments.specs.Tried.{Spike-tried, Box-tried};
 
 // A contour's segments, indices counted from its start, are a function of its points' places, kinds and directions and of the units.
 pub fn contours_stand_alone() -> u8
-    ensures alike { λ _. ⌜ Likes-read-alike ⌝ }
+    ensures alike { λ _. ⌜ Alike-read-same ⌝ }
     ensures alone { λ _. ⌜ Contours-alone ⌝ }
 {
     0

@@ -1,5 +1,5 @@
-use Rattle.segments.proofs.Alone.{likes-read-alike, contours-alone}
+use Rattle.segments.proofs.Alone.{alike-read-same, contours-alone}
 use Rattle.segments.proofs.laws.contours_stand_alone.Needs as need
 
 pub returns : need.returns
-returns c = record { alike = likes-read-alike; alone = contours-alone }
+returns c = record { alike = alike-read-same; alone = contours-alone }

@@ -30,10 +30,12 @@ pub record Visit : Type 0 where
   pub point : AxisPoint
   pub ends : Bool
 
+-- the points with their places, counted from i
 abbrev pub numbered : ℕ → List AxisPoint → List Visit
 numbered i [] = []
 numbered i (p ∷ ps) = record { at = i; point = p; ends = false } ∷ numbered (i + 1) ps
 
+-- a point at which the walk ends
 abbrev pub ending : Visit → Visit
 ending v = record { at = v .at; point = v .point; ends = true }
 
@@ -45,6 +47,7 @@ once-round s vs = drop s vs ++ (take s vs ++ map ending (take 1 (drop s vs)))
 abbrev pub visits-of : Dimension → List AxisPoint → List Visit
 visits-of dim ps = once-round (start-of dim ps) (numbered 0 ps)
 
+-- one or none, as a list
 abbrev pub list-of : {X : Type 0} → Option X → List X
 list-of None = []
 list-of (Some x) = x ∷ []
@@ -56,6 +59,7 @@ pub record Built : Type 0 where
   pub latest : Option State
   pub room : ℕ
 
+-- the segments that are closed
 abbrev pub segs-of : Built → List State
 segs-of b = b .done ++ list-of (b .latest)
 
@@ -72,6 +76,7 @@ latest-with latest (Some s) = Some (survivor latest s)
 abbrev pub room-with : ℕ → Bool → ℕ → ℕ
 room-with room opens n = cond opens (max room (n + 1)) room
 
+-- what one step of the walk leaves
 abbrev pub follow : Built → Moved → Built
 follow b m = record {
   walk = m .walk;
@@ -84,9 +89,11 @@ follow b m = record {
 abbrev pub visited : Dimension → ℕ → Built → Visit → Built
 visited dim base b v = follow b (moved dim (b .walk) (base + v .at) (v .point) (v .ends))
 
+-- before the first step
 abbrev pub fresh : Built
 fresh = record { walk = Between; done = []; latest = None; room = 0 }
 
+-- the points that the walk meets, step after step
 unfoldable pub walked : Dimension → ℕ → List Visit → Built
 walked dim base vs = folded (visited dim base) fresh vs
 
@@ -94,6 +101,7 @@ walked dim base vs = folded (visited dim base) fresh vs
 abbrev pub lone-built : ℕ → AxisPoint → Built
 lone-built base p = record { walk = Between; done = []; latest = Some (opened base p); room = 1 }
 
+-- a contour without points has no segment; with several points, it is walked round
 abbrev pub built-of : Dimension → ℕ → List AxisPoint → Built
 built-of dim base [] = fresh
 built-of dim base (p ∷ []) = lone-built base p

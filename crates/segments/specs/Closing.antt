@@ -12,6 +12,7 @@ abbrev pub joins : Option State → State → Bool
 joins None s = false
 joins (Some e) s = eqb (e .last) (s .first)
 
+-- the two in one
 abbrev pub merged-into : Option State → State → State
 merged-into None s = s
 merged-into (Some e) s = merged e s

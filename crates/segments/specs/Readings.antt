@@ -29,6 +29,7 @@ points-of ps c = take (c .end - c .first) (drop (c .first) ps)
 unfoldable pub entries-of : Dimension → ℕ → List Point → Contour → List Segment
 entries-of dim units ps c = map (shifted (c .first)) (segments-of dim units (points-of ps c))
 
+-- the most segments that a contour holds at once
 unfoldable pub room-of : Dimension → List Point → Contour → ℕ
 room-of dim ps c = most-of dim (points-of ps c)
 
@@ -43,6 +44,7 @@ overflows dim units ps h [] = false
 overflows dim units ps h (c ∷ cs) =
     ltb 1001 (h + room-of dim ps c) || overflows dim units ps (h + length (entries-of dim units ps c)) cs
 
+-- n blank entries
 abbrev pub blanks : ℕ → List Segment
 blanks n = replicate n blank
 
@@ -53,6 +55,7 @@ pub record Fills (dim : Dimension) (units : ℕ) (ps : List Point) (cs : List Co
   pub count : n ≡ length (all-entries dim units ps cs)
   pub table : t′ ≡ all-entries dim units ps cs ++ drop (length (all-entries dim units ps cs)) t
 
+-- unless one opens while more than 1,000 are held
 abbrev pub Filled : Dimension → ℕ → List Point → List Contour → List Segment → List Segment → Result ℕ BuildFault → Type 0
 Filled dim units ps cs t t′ (Ok n) = Fills dim units ps cs t t′ n
 Filled dim units ps cs t t′ (Err e) = overflows dim units ps 0 cs ≡ true
@@ -74,6 +77,7 @@ pub record Refused (dim : Dimension) (units : ℕ) (ps : List Point) (cs : List 
   pub over : overflows dim units ps 0 cs ≡ true
   pub table : t′ ≡ blanks (length t)
 
+-- what a reading answers and leaves
 abbrev pub Read : Dimension → ℕ → List Point → List Contour → List Segment → List Segment → Result ℕ BuildFault → Type 0
 Read dim units ps cs t t′ (Ok n) = Granted dim units ps cs t t′ n
 Read dim units ps cs t t′ (Err TooManySegments) = Refused dim units ps cs t t′

@@ -47,6 +47,7 @@ pub data Group : Type 0 where
   single : Taken → Group
   then : Group → Taken → Group
 
+-- its rows, and their points one after another
 abbrev pub rows-in : Group → List Taken
 rows-in (single t) = t ∷ []
 rows-in (then g t) = rows-in g ++ t ∷ []
@@ -70,12 +71,14 @@ pub record Merged (g : Group) (s : Stretch) : Type 0 where
   pub none-taller : All (λ r. height-of r ≤ height-of (s .own)) before
   pub later-lower : All (λ r. height-of r < height-of (s .own)) after
 
+-- so it is, group for group
 abbrev pub AllMerged : List Group → List Stretch → Type 0
 AllMerged [] [] = Unit {0}
 AllMerged [] (s ∷ ss) = ⊥
 AllMerged (g ∷ gs) [] = ⊥
 AllMerged (g ∷ gs) (s ∷ ss) = Merged g s × AllMerged gs ss
 
+-- the rows of all groups, in their order
 abbrev pub all-rows : List Group → List Taken
 all-rows [] = []
 all-rows (g ∷ gs) = rows-in g ++ all-rows gs

@@ -16,6 +16,7 @@ use Rattle.segments.specs.Measures.{lesser, greater, before, nearer, farther, 
 abbrev pub mark-of : AxisPoint → Mark
 mark-of p = record { at = p .coordinate; kind = p .kind }
 
+-- a control point, which is not on the curve
 abbrev pub control : PointKind → Bool
 control Control = true
 control OnCurve = false
@@ -87,6 +88,7 @@ merged a b = record {
   reach = taller a b .reach;
 }
 
+-- how far the points on the curve reach
 abbrev pub span : Reach → ℕ
 span r = gap (r .low) (r .high)
 

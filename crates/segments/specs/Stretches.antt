@@ -28,6 +28,7 @@ pub data Taken : Type 0 where
   lone : Visit → Taken
   more : Taken → Visit → Taken
 
+-- the first and the last of them
 abbrev pub first-of : Taken → Visit
 first-of (lone v) = v
 first-of (more t v) = first-of t
@@ -73,6 +74,7 @@ pub record Stretch : Type 0 where
   pub own : Taken
   pub all : Taken
 
+-- a segment that nothing was merged with
 abbrev pub plain : Taken → Stretch
 plain t = record { own = t; all = t }
 
@@ -126,6 +128,7 @@ abbrev pub touches : Option Stretch → Taken → Bool
 touches None t = false
 touches (Some e) t = eqb (last-of (e .all) .at) (first-of t .at)
 
+-- the two in one
 abbrev pub unite-with : Option Stretch → Taken → Stretch
 unite-with None t = plain t
 unite-with (Some e) t = unite e (plain t)
@@ -139,6 +142,7 @@ abbrev pub newest : Option Stretch → Option Taken → Option Stretch
 newest latest None = latest
 newest latest (Some t) = Some (cond (touches latest t) (unite-with latest t) (plain t))
 
+-- what meeting a point leaves
 abbrev pub onward : Course → Went → Course
 onward c w = record {
   inside = w .inside;
@@ -147,12 +151,15 @@ onward c w = record {
   room = room-with (c .room) (w .opens) (length (earlier (c .done) (c .latest) (w .closed) ++ list-of (newest (c .latest) (w .closed))));
 }
 
+-- one point further
 abbrev pub coursed : Dimension → Course → Visit → Course
 coursed dim c v = onward c (went dim (c .inside) v)
 
+-- before the first point
 abbrev pub setting-out : Course
 setting-out = record { inside = None; done = []; latest = None; room = 0 }
 
+-- all the points that the walk meets
 unfoldable pub course : Dimension → List Visit → Course
 course dim vs = folded (coursed dim) setting-out vs
 
@@ -160,11 +167,13 @@ course dim vs = folded (coursed dim) setting-out vs
 abbrev pub lone-course : AxisPoint → Course
 lone-course p = record { inside = None; done = []; latest = Some (plain (lone (record { at = 0; point = p; ends = false }))); room = 1 }
 
+-- a contour without points has no segment; with several points, it is walked round
 abbrev pub course-of : Dimension → List AxisPoint → Course
 course-of dim [] = setting-out
 course-of dim (p ∷ []) = lone-course p
 course-of dim (p ∷ q ∷ ps) = course dim (visits-of dim (p ∷ q ∷ ps))
 
+-- the segments that are closed
 abbrev pub stretches-of : Course → List Stretch
 stretches-of c = c .done ++ list-of (c .latest)
 

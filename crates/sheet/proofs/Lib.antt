@@ -1,2 +1,4 @@
 pub mod Tiled
 pub mod Placed
+pub mod Standing
+pub mod Built

@@ -3,3 +3,4 @@ pub mod Tilings
 pub mod Placing
 pub mod Books
 pub mod Readings
+pub mod Alone

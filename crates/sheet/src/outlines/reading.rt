@@ -1,6 +1,8 @@
 // Analysing a drawing, and reading its segments.
 ghost use mathlib.Core.Path.{_≡_};
+ghost use mathlib.Core.Bool.{Bool};
 ghost use Prim.Native.Nat.{_<_, _≤_};
+ghost use lib.IntN.{ℤ};
 ghost use lib.ListN.{length};
 ghost use Rattle.std.specs.Of.Vec.{vec-len, vec-items};
 ghost use Rattle.std.specs.Vec.{made};
@@ -8,6 +10,7 @@ ghost use Rattle.outline.specs.Units.{near-limit};
 ghost use Rattle.analysis.specs.Areas.{orientation-of, total-area};
 ghost use Rattle.analysis.specs.Outlines.{outline-records};
 ghost use Rattle.segments.specs.Majors.{major};
+ghost use Rattle.sheet.specs.Alone.{Analysed, Built-alone};
 ghost use Rattle.sheet.specs.Books.{book};
 ghost use Rattle.sheet.specs.Readings.{Built, Linked};
 ghost use Rattle.sheet.specs.Faults.{read-number};
@@ -167,10 +170,19 @@ impl Outline {
     pub fn build(&self, dim: Dimension, table: &mut [Segment]) -> Result<usize, ReadFault>
         ensures short { λ r. ⌜ (length (now (table .entry)) < 1001 → (r ≡ Err TableTooShort) × (now (table .exit) ≡ now (table .entry))) ⌝ }
         ensures built { λ r. ⌜ (1001 ≤ length (now (table .entry)) → Built dim (now (self .entry)) (now (table .entry)) (now (table .exit)) r) ⌝ }
+        ensures alone { λ r. ⌜ ((flat : ℤ → ℤ → ℤ → ℤ → Bool) → Analysed flat (now (self .entry)) → 1001 ≤ length (now (table .entry)) → Built-alone flat dim (now (self .entry)) (now (table .entry)) (now (table .exit)) r) ⌝ }
     {
         if table.len() < TABLE_LEN {
             return Err(ReadFault::TableTooShort);
         }
+        self.build_into(dim, table)
+    }
+
+    // The same, where the table is long enough.
+    fn build_into(&self, dim: Dimension, table: &mut [Segment]) -> Result<usize, ReadFault>
+        requires { ⌜ 1001 ≤ length (now table) ⌝ }
+        ensures { λ r. ⌜ Built dim (now (self .entry)) (now (table .entry)) (now (table .exit)) r ⌝ }
+    {
         let count = build_segments(self.points(), self.contours(), dim, &self.settings, table)?;
         Ok(count)
     }

@@ -1,17 +1,10 @@
-use mathlib.Core.Path.{_≡_, ap}
-use native.Mathlib.Omega.{arith}
-use lib.ListN.{length}
-use Rattle.std.specs.Of.Vec.{vec-len}
-use Rattle.sheet.proofs.Tiled.{told-inside}
+use borrow.Author.Needs.{needs}
+use Rattle.sheet.proofs.Built.{built-alone}
 use Rattle.sheet.proofs.outlines.Outline.build.Needs as need
 
-pub build-segments-requires : need.build-segments-requires
-build-segments-requires c κs =
-    let self = c .args .self .now in
-    let count : length (c .points .result .now) ≡ vec-len (self .drawing .points) =
-    omega (arith, ap length (c .points .ensures), self .points .ok .0, self .counted) in
-    record {
-      points = omega (arith, count, self .drawing .«few_points»);
-      contours = told-inside _ _ _ _ (self .drawing .tiled) count (c .contours .ensures);
-      table = omega arith;
-    }
+pub returns : need.returns
+returns c = record {
+  short = search needs;
+  built = search needs;
+  alone = λ flat a _. built-alone flat (c .args .dim) (c .args .self .now) (c .args .table .now) (c .build-into .last .table) (c .build-into .result) (c .build-into .ensures) a;
+}

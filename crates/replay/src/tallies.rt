@@ -1,6 +1,11 @@
 // Stored answers compared with the library's own, and what came of it.
 ghost use mathlib.Core.Path.{_≡_};
+ghost use mathlib.Core.List.{_++_};
+ghost use Prim.Native.Nat.{_+_, _-_, _^_, min};
+ghost use Rattle.std.specs.Of.String.{string-bytes};
 ghost use Rattle.std.specs.Vec.{made};
+ghost use Rattle.replay.specs.Counts.{counts};
+use std::alloc::AllocError;
 use std::alloc::Global;
 use std::io;
 
@@ -42,6 +47,12 @@ impl Differing {
     }
 }
 
+fn counts_line(heap: Global, records: u64, differences: u64) -> Result<String, AllocError>
+    ensures { λ r. ⌜ made r (λ line. string-bytes line ≡ counts records differences) ⌝ }
+{
+    format!(heap, "{records} records, {differences} differences\n")
+}
+
 // How many records were compared, and how many of them differ.
 #[derive(Drop)]
 pub struct Tally {
@@ -67,6 +78,7 @@ impl Tally {
     // Compares the two texts of one record. A difference is counted exactly where they differ, so that
     // none in the end says that all were equal.
     pub fn compare(&mut self, expected: &str, own: &str) -> io::Result<()>
+        ensures counted { λ _. ⌜ now (self .exit) .records ≡ min (now (self .entry) .records + 1) (2 ^ 64 - 1) ⌝ }
         ensures equal { λ _. ⌜ (now (expected .entry) ≡ now (own .entry) → now (self .exit) .differences ≡ now (self .entry) .differences) ⌝ }
         ensures clean { λ r. ⌜ made r (λ _. now (self .exit) .differences ≡ 0 → (now (self .entry) .differences ≡ 0) × (now (expected .entry) ≡ now (own .entry))) ⌝ }
     {
@@ -78,12 +90,12 @@ impl Tally {
         Ok(())
     }
 
-    // The differing lines, and the counts.
-    pub fn report(&self, heap: Global) -> io::Result<String> {
+    // The differing lines, and then the counts.
+    pub fn report(&self, heap: Global) -> io::Result<String>
+        ensures { λ r. ⌜ made r (λ text. string-bytes text ≡ string-bytes (now (self .entry) .differing .text) ++ counts (now (self .entry) .records) (now (self .entry) .differences)) ⌝ }
+    {
         let mut text = self.differing.text.clone()?;
-        let records = self.records;
-        let differences = self.differences;
-        writeln!(text, "{records} records, {differences} differences")?;
+        text.push_str(counts_line(heap, self.records, self.differences)?.as_str())?;
         Ok(text)
     }
 }

@@ -2,7 +2,7 @@
 mod records;
 mod refusals;
 
-pub use records::record_outline;
+pub use records::read_card;
 pub use records::stem_card;
 pub use refusals::NoCard;
 pub use refusals::Refusal;

@@ -1,4 +1,14 @@
 // From the bytes of a drawing record to what is printed of them.
+ghost use mathlib.Core.Path.{_≡_};
+ghost use lib.ListN.{drop};
+ghost use Rattle.std.specs.Of.String.{string-bytes};
+ghost use Rattle.std.specs.Of.Vec.{vec-items};
+ghost use Rattle.std.specs.Vec.{made};
+ghost use Rattle.unscaled.specs.Records.{Values, entries};
+ghost use Rattle.sheet.specs.Books.{book};
+ghost use Rattle.sheet.specs.Placing.{Contours, placed};
+ghost use Rattle.record_card.specs.Agreements.{Agrees, OutlineOf, values-of};
+ghost use Rattle.record_card.specs.Printed.{axis, contours-card, of-edit, record-card, printed};
 use crate::refusals::NoCard;
 use crate::refusals::NoCardFromAlloc;
 use crate::refusals::NoCardFromEdit;
@@ -22,43 +32,67 @@ use unscaled::Header;
 use unscaled::RecordPoints;
 use unscaled::RecordPointsSource;
 
-// The outline that a record draws, analysed by the corner rule that it asks for.
-pub fn record_outline(heap: Global, bytes: &[u8]) -> Result<Outline, NoCard> {
-    let header = Header::read(bytes)?;
+// The record's points, placed on an empty sheet.
+fn record_drawing(heap: Global, bytes: &[u8]) -> Result<Drawing, NoCard>
+    ensures { λ r. ⌜ Agrees r book (of-edit (placed 0 0 (entries (drop 8 (now (bytes .entry)))))) ⌝ }
+{
     let mut drawing = Drawing::new(heap)?;
     drawing.draw(&RecordPoints::of_record(bytes))?;
-    let outline = match header.corner {
-        CornerCode::Jit => Outline::analyze(heap, &Jit, header.settings, drawing)?,
-        CornerCode::Aot => Outline::analyze(heap, &Aot, header.settings, drawing)?,
-    };
-    Ok(outline)
+    Ok(drawing)
+}
+
+// The drawing, analysed by the corner rule that the header names.
+fn analyze(heap: Global, header: Header, drawing: Drawing) -> Result<Outline, AllocError>
+    ensures { λ r. ⌜ made r (λ o. OutlineOf (values-of header) (book drawing) o) ⌝ }
+{
+    match header.corner {
+        CornerCode::Jit => Outline::analyze(heap, &Jit, header.settings, drawing),
+        CornerCode::Aot => Outline::analyze(heap, &Aot, header.settings, drawing),
+    }
+}
+
+// The finished segments of an axis.
+fn read_axis(heap: Global, outline: &Outline, dim: Dimension) -> Result<Vec<Segment>, NoCard>
+    ensures { λ r. ⌜ ((v : Values) (cs : Contours) → OutlineOf v cs (now (outline .entry)) → Agrees r vec-items (axis v dim cs)) ⌝ }
+{
+    let mut table = vec![in heap; Segment::blank(); TABLE_LEN]?;
+    let count = outline.read(dim, &mut table)?;
+    table.truncate(count);
+    Ok(table)
 }
 
 // The card of an outline. Both axes are read before any text is made.
-fn outline_card(heap: Global, outline: &Outline) -> Result<String, NoCard> {
-    let mut horizontal = vec![in heap; Segment::blank(); TABLE_LEN]?;
-    let mut vertical = vec![in heap; Segment::blank(); TABLE_LEN]?;
-    let across = outline.read(Dimension::Horizontal, &mut horizontal)?;
-    let along = outline.read(Dimension::Vertical, &mut vertical)?;
+fn outline_card(heap: Global, outline: &Outline) -> Result<String, NoCard>
+    ensures { λ r. ⌜ ((v : Values) (cs : Contours) → OutlineOf v cs (now (outline .entry)) → Agrees r string-bytes (contours-card v cs)) ⌝ }
+{
+    let horizontal = read_axis(heap, outline, Dimension::Horizontal)?;
+    let vertical = read_axis(heap, outline, Dimension::Vertical)?;
     let text = card_text(
         heap,
-        outline.points().len(),
-        outline.contours().len(),
+        outline.point_count(),
+        outline.contour_count(),
         outline.orientation(),
-        &horizontal[0..across],
-        &vertical[0..along],
+        horizontal.as_slice(),
+        vertical.as_slice(),
     )?;
     Ok(text)
 }
 
-fn record_card(heap: Global, bytes: &[u8]) -> Result<String, NoCard> {
-    let outline = record_outline(heap, bytes)?;
+// The card of a record.
+pub fn read_card(heap: Global, bytes: &[u8]) -> Result<String, NoCard>
+    ensures { λ r. ⌜ Agrees r string-bytes (record-card (now (bytes .entry))) ⌝ }
+{
+    let header = Header::read(bytes)?;
+    let drawing = record_drawing(heap, bytes)?;
+    let outline = analyze(heap, header, drawing)?;
     outline_card(heap, &outline)
 }
 
 // The card of a record, or the text of its refusal.
-pub fn stem_card(heap: Global, bytes: &[u8]) -> Result<String, AllocError> {
-    match record_card(heap, bytes) {
+pub fn stem_card(heap: Global, bytes: &[u8]) -> Result<String, AllocError>
+    ensures { λ r. ⌜ made r (λ s. string-bytes s ≡ printed (now (bytes .entry))) ⌝ }
+{
+    match read_card(heap, bytes) {
         Ok(text) => Ok(text),
         Err(NoCard::Refused(refusal)) => refused_text(heap, refusal.number()),
         Err(NoCard::Memory(e)) => Err(e),

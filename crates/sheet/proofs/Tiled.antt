@@ -3,6 +3,7 @@ use mathlib.Core.Path.{_≡_, refl, sym, ap, subst, _∙_}
 use mathlib.Core.Bool.{Bool, true, false, _&&_}
 use mathlib.Core.List.{List, [], _∷_, _++_, map}
 use Prim.Native.Nat.{ℕ, zero, suc, _+_, _<_, _≤_}
+use native.Mathlib.Nat.{zero-add}
 use native.Mathlib.Omega.{arith}
 use lib.Dec.{eqb, ltb}
 use lib.ListN.{length, length-append, getD, set, drop}
@@ -10,7 +11,7 @@ use lib.Seq.{take-append-le}
 use Rattle.std.specs.Orderings.{Decides}
 use Rattle.std.specs.Holes.{between}
 use Rattle.std.proofs.shelf.Ways.{decides-eqb, decides-ltb, decides-and}
-use Rattle.std.proofs.shelf.Edits.{between-more, between-none}
+use Rattle.std.proofs.shelf.Edits.{between-more, between-none, length-between}
 use Rattle.std.proofs.shelf.Parts.{between-is}
 use Rattle.std.proofs.shelf.Lists.{getD-push, length-push, map-push}
 use Rattle.outline.specs.declared.contours.Contour.{Contour}
@@ -18,7 +19,7 @@ use Rattle.outline.specs.declared.points.DrawnPoint.{DrawnPoint}
 use Rattle.analysis.specs.Outlines.{Tiles, points-of, cut-out}
 use Rattle.segments.specs.Readings.{Inside}
 use Rattle.sheet.specs.Tilings.{tiles}
-use Rattle.sheet.specs.Placing.{lengthened}
+use Rattle.sheet.specs.Placing.{lengthened, point-count}
 
 pub decides-tiles : (b n : ℕ) (cs : List Contour) → Decides (tiles b n cs) (Tiles b n cs)
 decides-tiles b n [] = decides-eqb b n
@@ -124,3 +125,14 @@ tiles-inside b n (c ∷ cs) h = (omega (arith, h .1), tiles-le (c .end) n cs (h 
 
 pub told-inside : (n m : ℕ) (cs cs′ : List Contour) → tiles 0 n cs ≡ true → m ≡ n → cs′ ≡ cs → Inside m cs′
 told-inside n m cs cs′ t e c = tiles-inside 0 m cs′ (told-tiles n m cs cs′ t e c)
+
+-- the points of contours that cover all points
+counted : (b n : ℕ) (cs : List Contour) (ps : List DrawnPoint) → Tiles b n cs → n ≤ length ps → point-count (cut-out cs ps) + b ≡ n
+counted b n [] ps h l = simp zero-add h
+counted b n (c ∷ cs) ps h l =
+    let le = tiles-le (c .end) n cs (h .2) in
+    let own = length-between ps (c .first) (c .end) (omega (arith, le, l)) in
+    omega (arith, own, counted (c .end) n cs ps (h .2) l, h .0, h .1)
+
+pub told-points : (n : ℕ) (cs : List Contour) (ps : List DrawnPoint) → tiles 0 n cs ≡ true → n ≡ length ps → n ≡ point-count (cut-out cs ps)
+told-points n cs ps t l = omega (arith, counted 0 n cs ps (decides-tiles 0 n cs .0 t) (omega (arith, l)))

@@ -12,9 +12,13 @@ use Rattle.std.specs.declared.result.Result.the-variants.{Ok, Err}
 use Rattle.outline.specs.declared.points.DrawnPoint.{DrawnPoint}
 use Rattle.outline.specs.Units.{near-limit}
 use Rattle.analysis.specs.Outlines.{outline-records}
+use Rattle.analysis.specs.Areas.{orientation-of, total-area}
 use Rattle.analysis.specs.Records.{analysed}
+use Rattle.linking.specs.Links.{linked-table}
+use Rattle.linking.specs.Rules.{rule-by}
 use Rattle.segments.specs.declared.measures.Dimension.{Dimension}
 use Rattle.segments.specs.declared.tables.Segment.{Segment}
+use Rattle.segments.specs.Majors.{major}
 use Rattle.segments.specs.Readings.{blanks}
 use Rattle.segments.specs.Stretches.{segments-of, most-of, shifted}
 use Rattle.sheet.specs.declared.outlines.Outline.{Outline}
@@ -53,3 +57,12 @@ Built-alone flat dim o t t′ (Ok n) =
 Built-alone flat dim o t t′ (Err (Build f)) =
     (crowded flat dim (o .settings .units) 0 (book (o .drawing)) ≡ true) × (t′ ≡ blanks (length t))
 Built-alone flat dim o t t′ (Err TableTooShort) = ⊥
+
+-- what a reading answers and leaves in a table t that is long enough, by the contours alone: the same, with the segments linked
+abbrev pub Linked-alone : (ℤ → ℤ → ℤ → ℤ → Bool) → Dimension → Outline → List Segment → List Segment → Result ℕ ReadFault → Type 0
+Linked-alone flat dim o t t′ (Ok n) =
+    (crowded flat dim (o .settings .units) 0 (book (o .drawing)) ≡ false)
+    × (n ≡ length (drawn-segments flat dim (o .settings .units) 0 (book (o .drawing))))
+    × (t′ ≡ linked-table (rule-by (o .settings) (major dim (orientation-of (total-area (book (o .drawing)))))) n
+    (drawn-segments flat dim (o .settings .units) 0 (book (o .drawing)) ++ blanks (length t - n)))
+Linked-alone flat dim o t t′ (Err f) = Built-alone flat dim o t t′ (Err f)

@@ -17,6 +17,11 @@ use Rattle.sheet.specs.declared.faults.EditFault.the-variants.{NoPoints, TooMa
 abbrev pub Contours : Type 0
 Contours = List (List DrawnPoint)
 
+-- how many points they have together
+abbrev pub point-count : Contours → ℕ
+point-count [] = 0
+point-count (c ∷ cs) = length c + point-count cs
+
 -- what follows a check, unless it refuses
 abbrev pub follow : {X Y : Type 0} → Result X EditFault → (X → Result Y EditFault) → Result Y EditFault
 follow (Ok x) k = k x

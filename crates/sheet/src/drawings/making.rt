@@ -11,7 +11,7 @@ ghost use Rattle.std.specs.Vec.{made};
 ghost use Rattle.unscaled.specs.Entries.{past-count};
 ghost use Rattle.unscaled.specs.Placements.{in-range};
 ghost use Rattle.sheet.specs.Books.{book};
-ghost use Rattle.sheet.specs.Placing.{admitted, lengthened, extended, entered, drawn-from, placed, with-contours};
+ghost use Rattle.sheet.specs.Placing.{point-count, admitted, lengthened, extended, entered, drawn-from, placed, with-contours};
 use super::Drawing;
 use crate::faults::EditFault;
 use crate::faults::EditFaultFromSource;
@@ -176,5 +176,17 @@ impl Drawing {
         ensures few { λ r. ⌜ length (now r) ≤ 128 ⌝ }
     {
         self.contours.as_slice()
+    }
+
+    pub fn point_count(&self) -> usize
+        ensures { λ r. ⌜ r ≡ point-count (book (now (self .entry))) ⌝ }
+    {
+        self.points.len()
+    }
+
+    pub fn contour_count(&self) -> usize
+        ensures { λ r. ⌜ r ≡ length (book (now (self .entry))) ⌝ }
+    {
+        self.contours.len()
     }
 }

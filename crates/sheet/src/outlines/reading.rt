@@ -10,8 +10,9 @@ ghost use Rattle.outline.specs.Units.{near-limit};
 ghost use Rattle.analysis.specs.Areas.{orientation-of, total-area};
 ghost use Rattle.analysis.specs.Outlines.{outline-records};
 ghost use Rattle.segments.specs.Majors.{major};
-ghost use Rattle.sheet.specs.Alone.{Analysed, Built-alone};
+ghost use Rattle.sheet.specs.Alone.{Analysed, Built-alone, Linked-alone};
 ghost use Rattle.sheet.specs.Books.{book};
+ghost use Rattle.sheet.specs.Placing.{point-count};
 ghost use Rattle.sheet.specs.Readings.{Built, Linked};
 ghost use Rattle.sheet.specs.Faults.{read-number};
 ghost use Rattle.sheet.specs.declared.outlines.reading.ReadFault.the-variants.{TableTooShort, Build as FromBuild};
@@ -126,6 +127,7 @@ impl Outline {
         settings: Settings,
         drawing: Drawing,
     ) -> Result<Outline, AllocError>
+        ensures settings { λ r. ⌜ made r (λ o. o .settings ≡ settings) ⌝ }
         ensures drawn { λ r. ⌜ made r (λ o. book (o .drawing) ≡ book drawing) ⌝ }
         ensures records { λ r. ⌜ made r (λ o. vec-items (o .points) ≡ outline-records (R·CornerRule .flat (now (rule .entry))) (near-limit (settings .units)) 0 (book drawing)) ⌝ }
     {
@@ -151,6 +153,18 @@ impl Outline {
         ensures { λ r. ⌜ now r ≡ vec-items (now (self .entry) .drawing .contours) ⌝ }
     {
         self.drawing.contours()
+    }
+
+    pub fn point_count(&self) -> usize
+        ensures { λ r. ⌜ r ≡ point-count (book (now (self .entry) .drawing)) ⌝ }
+    {
+        self.drawing.point_count()
+    }
+
+    pub fn contour_count(&self) -> usize
+        ensures { λ r. ⌜ r ≡ length (book (now (self .entry) .drawing)) ⌝ }
+    {
+        self.drawing.contour_count()
     }
 
     pub fn orientation(&self) -> Option<Orientation>
@@ -191,6 +205,7 @@ impl Outline {
     pub fn read(&self, dim: Dimension, table: &mut [Segment]) -> Result<usize, ReadFault>
         ensures short { λ r. ⌜ (length (now (table .entry)) < 1001 → (r ≡ Err TableTooShort) × (now (table .exit) ≡ now (table .entry))) ⌝ }
         ensures linked { λ r. ⌜ (1001 ≤ length (now (table .entry)) → Linked dim (now (self .entry)) (now (table .entry)) (now (table .exit)) r) ⌝ }
+        ensures alone { λ r. ⌜ ((flat : ℤ → ℤ → ℤ → ℤ → Bool) → Analysed flat (now (self .entry)) → 1001 ≤ length (now (table .entry)) → Linked-alone flat dim (now (self .entry)) (now (table .entry)) (now (table .exit)) r) ⌝ }
         ensures few { λ r. ⌜ made r (λ n. (n ≤ 1001) × (n ≤ length (now (table .exit)))) ⌝ }
     {
         let count = self.build(dim, table)?;

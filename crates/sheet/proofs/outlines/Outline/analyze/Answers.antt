@@ -13,6 +13,7 @@ whole n out rest records l e = rw l (take-append-seam out rest ∙ e)
 
 pub returns : need.returns
 returns g c = record {
+  settings = refl;
   drawn = refl;
   records = whole _ _ _ _ (omega (arith, c .analyze .kept .out, c .deref-mut-3 .ensures .len)) (c .analyze .ensures);
 }

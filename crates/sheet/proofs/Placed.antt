@@ -5,7 +5,7 @@ use mathlib.Core.List.{List, [], _∷_, _++_}
 use Prim.Native.Nat.{ℕ, zero, suc, _+_, _<_, _≤_}
 use native.Mathlib.Omega.{arith}
 use native.Mathlib.Nat.{zero-add}
-use lib.Dec.{eqb, ltb}
+use lib.Dec.{eqb, ltb, leb}
 use lib.ListN.{length, length-map, getD, drop}
 use Rattle.std.specs.declared.result.Result.{Result}
 use Rattle.std.specs.declared.result.Result.the-variants.{Ok, Err}
@@ -28,13 +28,13 @@ module _ (cs : List Contour) (ps : List DrawnPoint) (q : DrawnPoint) (opens firs
   pub point-lengthens : (bs : Contours) → first ≡ false → bs ≡ lengthened (cut-out cs ps) q → Ok bs ≡ extended 0 (cut-out cs ps) opens q
   point-lengthens bs e b = rw (b, ← same-first, e)
 
-  pub point-refused : first ≡ true → 128 ≤ held → Err TooManyContours ≡ extended 0 (cut-out cs ps) opens q
-  point-refused e l =
+  pub point-refused : (full : Bool) → first ≡ true → full ≡ leb 128 held → full ≡ true → Err TooManyContours ≡ extended 0 (cut-out cs ps) opens q
+  point-refused full e l t =
       let k : ltb (0 + length (cut-out cs ps)) 128 ≡ false = rw (length-map, ← h) (grind (arith, tells)) in
       rw (← same-first, e, k)
 
-  pub point-opens : (bs : Contours) → first ≡ true → held < 128 → bs ≡ cut-out cs ps ++ (q ∷ []) ∷ [] → Ok bs ≡ extended 0 (cut-out cs ps) opens q
-  point-opens bs e l b =
+  pub point-opens : (full : Bool) (bs : Contours) → first ≡ true → full ≡ leb 128 held → full ≡ false → bs ≡ cut-out cs ps ++ (q ∷ []) ∷ [] → Ok bs ≡ extended 0 (cut-out cs ps) opens q
+  point-opens full bs e l t b =
       let k : ltb (0 + length (cut-out cs ps)) 128 ≡ true = rw (length-map, ← h) (grind (arith, tells)) in
       rw (b, ← same-first, e, k)
 

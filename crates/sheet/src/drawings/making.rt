@@ -3,7 +3,7 @@ ghost use mathlib.Core.Path.{_≡_};
 ghost use mathlib.Core.Bool.{true, false, _||_};
 ghost use mathlib.Core.List.{[], _∷_, _++_};
 ghost use Prim.Native.Nat.{ℕ, _+_, _≤_, _<_};
-ghost use lib.Dec.{eqb};
+ghost use lib.Dec.{eqb, leb};
 ghost use lib.ListN.{length, getD};
 ghost use Rattle.std.specs.Of.Vec.{vec-len, vec-items};
 ghost use Rattle.std.specs.Results.{isOk};
@@ -53,6 +53,13 @@ fn is_first(opens: bool, held: usize) -> bool
     ensures { λ r. ⌜ r ≡ (opens || eqb held 0) ⌝ }
 {
     opens || held == 0
+}
+
+// Whether no further contour may open.
+fn is_full(held: usize) -> bool
+    ensures { λ r. ⌜ r ≡ leb 128 held ⌝ }
+{
+    held >= MOST_CONTOURS
 }
 
 impl Drawing {
@@ -111,7 +118,7 @@ impl Drawing {
             self.lengthen_contour(point);
             return Ok(());
         }
-        if held >= MOST_CONTOURS {
+        if is_full(held) {
             return Err(EditFault::TooManyContours);
         }
         self.open_contour(point);

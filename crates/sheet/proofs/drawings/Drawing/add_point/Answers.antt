@@ -13,11 +13,11 @@ returns-then-not-is-first c =
       len = λ _. c .lengthen-contour .ensures .len;
     }
 
-pub returns-then-held-ge-MOST-CONTOURS : need.returns-then-held-ge-MOST-CONTOURS
-returns-then-held-ge-MOST-CONTOURS c =
+pub returns-then-is-full : need.returns-then-is-full
+returns-then-is-full c =
     let self = c .args .self .now in
     record {
-      book = point-refused (vec-items (self .contours)) (vec-items (self .points)) _ _ _ _ (omega (arith, c .len-held .ensures, self .contours .ok .0)) (c .is-first .ensures) (c .if-not-is-first .left) (c .if-held-ge-MOST-CONTOURS .taken);
+      book = point-refused (vec-items (self .contours)) (vec-items (self .points)) _ _ _ _ (omega (arith, c .len-held .ensures, self .contours .ok .0)) (c .is-first .ensures) _ (c .if-not-is-first .left) (c .is-full .ensures) (c .if-is-full .taken);
       len = λ e. absurd (let z : _≡_ {A = ℕ} 0 1 = cc in omega arith);
     }
 
@@ -25,6 +25,6 @@ pub returns : need.returns
 returns c =
     let self = c .args .self .now in
     record {
-      book = point-opens (vec-items (self .contours)) (vec-items (self .points)) _ _ _ _ (omega (arith, c .len-held .ensures, self .contours .ok .0)) (c .is-first .ensures) _ (c .if-not-is-first .left) (omega arith) (c .open-contour .ensures .book);
+      book = point-opens (vec-items (self .contours)) (vec-items (self .points)) _ _ _ _ (omega (arith, c .len-held .ensures, self .contours .ok .0)) (c .is-first .ensures) _ _ (c .if-not-is-first .left) (c .is-full .ensures) (c .if-is-full .left) (c .open-contour .ensures .book);
       len = λ _. c .open-contour .ensures .len;
     }

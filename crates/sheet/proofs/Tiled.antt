@@ -1,6 +1,6 @@
 -- Laws of contours that cover points one after another.
-use mathlib.Core.Path.{_≡_, refl, sym, ap, subst, _∙_}
-use mathlib.Core.Bool.{Bool, true, false, _&&_}
+use mathlib.Core.Path.{_≡_, refl, sym, ap, _∙_}
+use mathlib.Core.Bool.{Bool, true}
 use mathlib.Core.List.{List, [], _∷_, _++_, map}
 use Prim.Native.Nat.{ℕ, zero, suc, _+_, _<_, _≤_}
 use native.Mathlib.Nat.{zero-add}
@@ -11,12 +11,13 @@ use lib.Seq.{take-append-le}
 use Rattle.std.specs.Orderings.{Decides}
 use Rattle.std.specs.Holes.{between}
 use Rattle.std.proofs.shelf.Ways.{decides-eqb, decides-ltb, decides-and}
-use Rattle.std.proofs.shelf.Edits.{between-more, between-none, length-between}
+use Rattle.std.proofs.shelf.Edits.{between-more, between-none}
 use Rattle.std.proofs.shelf.Parts.{between-is}
 use Rattle.std.proofs.shelf.Lists.{getD-push, length-push, map-push}
 use Rattle.outline.specs.declared.contours.Contour.{Contour}
 use Rattle.outline.specs.declared.points.DrawnPoint.{DrawnPoint}
 use Rattle.analysis.specs.Outlines.{Tiles, points-of, cut-out}
+use Rattle.analysis.proofs.Tilings.{tiles-le, length-points}
 use Rattle.segments.specs.Readings.{Inside}
 use Rattle.sheet.specs.Tilings.{tiles}
 use Rattle.sheet.specs.Placing.{lengthened, point-count}
@@ -42,11 +43,6 @@ tiles-grow b n (suc k) f (c ∷ []) d h l e = absurd (omega (arith, l))
 tiles-grow b n zero f (c ∷ (m ∷ cs)) d h l e = absurd (omega (arith, l))
 tiles-grow b n (suc k) f (c ∷ (m ∷ cs)) d h l e =
     (h .0, h .1, tiles-grow (c .end) n k f (m ∷ cs) d (h .2) (omega (arith, l)) e)
-
--- the contours end where the points end
-pub tiles-le : (b n : ℕ) (cs : List Contour) → Tiles b n cs → b ≤ n
-tiles-le b n [] h = omega (arith, h)
-tiles-le b n (c ∷ cs) h = omega (arith, h .0, h .1, tiles-le (c .end) n cs (h .2))
 
 -- points that come after do not matter
 between-before : (f e : ℕ) (ps qs : List DrawnPoint) → e ≤ length ps → between f e (ps ++ qs) ≡ between f e ps
@@ -131,7 +127,7 @@ counted : (b n : ℕ) (cs : List Contour) (ps : List DrawnPoint) → Tiles b n c
 counted b n [] ps h l = simp zero-add h
 counted b n (c ∷ cs) ps h l =
     let le = tiles-le (c .end) n cs (h .2) in
-    let own = length-between ps (c .first) (c .end) (omega (arith, le, l)) in
+    let own = length-points ps c (omega (arith, le, l)) in
     omega (arith, own, counted (c .end) n cs ps (h .2) l, h .0, h .1)
 
 pub told-points : (n : ℕ) (cs : List Contour) (ps : List DrawnPoint) → tiles 0 n cs ≡ true → n ≡ length ps → n ≡ point-count (cut-out cs ps)

@@ -1,4 +1,6 @@
 // The analysis of contours: the record of each point, and the way round that the contours are drawn.
+#![tactic(auto)]
+
 mod areas;
 mod bends;
 mod contours;
@@ -9,5 +11,5 @@ mod verdicts;
 
 pub use areas::compute_orientation;
 pub use contours::analyze_contour;
-pub use outlines::{analyze_outline, analyze_span};
+pub use outlines::analyze_outline;
 pub use walk::{Leg, Mark};

@@ -7,8 +7,8 @@ use crate::contours::analyze_contour;
 use outline::{Contour, CornerRule, DrawnPoint, Point, Settings};
 use walk::{Leg, Mark};
 
-// Writes the records of one contour at its place among the outline's; `legs` and `marks` are working room.
-pub fn analyze_span<R: CornerRule>(
+// Writes the records of one contour at its place among the outline's.
+fn analyze_span<R: CornerRule>(
     rule: &R,
     settings: &Settings,
     points: &[DrawnPoint],
@@ -18,7 +18,7 @@ pub fn analyze_span<R: CornerRule>(
     out: &mut [Point],
 )
     requires first_lt_end { (contour.first < contour.end) × ((contour.end ≤ length points.now) × (length points.now ≤ 2048)) }
-    requires points_in_bounds { (length points.now ≤ length legs.old) × ((length points.now ≤ length marks.old) × (length out.old ≡ length points.now)) }
+    requires legs_len { (length legs.old ≡ length points.now) × ((length marks.old ≡ length points.now) × (length out.old ≡ length points.now)) }
     ensures { out.new ≡ replaced (flat rule.now) (near_limit settings.now.units) contour points.now out.old }
 {
     let first = contour.first;
@@ -35,7 +35,7 @@ pub fn analyze_span<R: CornerRule>(
     );
 }
 
-// The records of an outline's contours, each at its place; `legs` and `marks` are working room for as many points or more.
+// The records of an outline's contours, each at its place; `legs` and `marks` are working room.
 pub fn analyze_outline<R: CornerRule>(
     rule: &R,
     settings: &Settings,
@@ -46,7 +46,7 @@ pub fn analyze_outline<R: CornerRule>(
     out: &mut [Point],
 )
     requires tiles { (Tiles 0 (length points.now) contours.now) × (length points.now ≤ 2048) }
-    requires points_in_bounds { (length points.now ≤ length legs.old) × ((length points.now ≤ length marks.old) × (length out.old ≡ length points.now)) }
+    requires legs_len { (length legs.old ≡ length points.now) × ((length marks.old ≡ length points.now) × (length out.old ≡ length points.now)) }
     ensures value { out.new ≡ outline_records (flat rule.now) (near_limit settings.now.units) 0 (cut_out contours.now points.now) }
     ensures alone { StandAlone (flat rule.now) (near_limit settings.now.units) contours.now points.now out.new }
 {

@@ -1,4 +1,6 @@
 // The text of a stem card: a head, a line for each segment of both axes, and the count of stems.
+#![tactic(auto)]
+
 mod faults;
 mod lines;
 mod rows;
@@ -9,4 +11,4 @@ mod words;
 pub use faults::CardFault;
 pub use rows::card_line;
 pub use stems::stem_count;
-pub use texts::{card_into, card_text, refused_into};
+pub use texts::{card_into, card_text, refused_text};

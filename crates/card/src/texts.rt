@@ -96,13 +96,9 @@ pub fn card_text(
     card_into(room, points, contours, orientation, horizontal, vertical)
 }
 
-// What is printed in place of a card that is refused, in place of what a string holds. With room for 96 bytes it
-// never fails.
-pub fn refused_into(room: String, number: u8) -> Result<String, AllocError>
-    ensures { MatchResult result (λ s. string_bytes s ≡ line_of (refused_words number)) (λ _. string_capacity room < 96) }
+// What is printed in place of a card that is refused.
+pub fn refused_text(heap: Global, number: u8) -> Result<String, AllocError>
+    ensures { IfOk result (λ s. string_bytes s ≡ line_of (refused_words number)) }
 {
-    let mut out = room;
-    out.clear();
-    push_line(&mut out, &count_line("refused", u64::from(number)))?;
-    Ok(out)
+    String::from_str(heap, count_line("refused", u64::from(number)).as_str())
 }

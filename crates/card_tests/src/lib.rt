@@ -1,7 +1,9 @@
 // Examples of the card. In a crate of their own: a crate with tests is proved twice.
+#![tactic(auto)]
+
 #[cfg(test)]
 mod tests {
-    use card::{card_line, card_text, refused_into, stem_count};
+    use card::{card_line, card_text, refused_text, stem_count};
     use outline::{Direction, Orientation};
     use segments::{Coordinate, Dimension, Position, Segment};
     use std::test::Fail;
@@ -76,7 +78,7 @@ mod tests {
 
     #[test]
     fn shows_a_refusal(rt: HostRuntime) -> Result<(), Fail> {
-        assert!(rt; refused_into(String::new(rt.alloc()), 17)?.as_str() == "refused 17\n");
+        assert!(rt; refused_text(rt.alloc(), 17)?.as_str() == "refused 17\n");
         Ok(())
     }
 

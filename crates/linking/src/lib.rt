@@ -1,4 +1,6 @@
 // Scoring and linking the segments of a table, in place.
+#![tactic(auto)]
+
 mod choices;
 mod linker;
 mod partners;

@@ -2,6 +2,8 @@
 //
 // A line has the units, the width and the major direction and then, for each entry, its direction,
 // position, least and greatest coordinate. A table that is refused prints `refused` and the number.
+#![tactic(auto)]
+
 use anyhow::anyhow;
 use linking::link;
 use outline::Direction;

@@ -1,5 +1,5 @@
 -- The settings' ranges, and the numbers of their refusals.
-use Rattle.std.specs.Prelude.{◌≡◌, ℕ, ◌*◌, ◌/◌, ◌<◌, ◌≤◌, ◌⊎◌}
+use Rattle.std.specs.Prelude.{◌≡◌, ℕ, ◌*◌, ◌/◌, ◌≤◌}
 use Rattle.outline.specs.declared.units.Settings.{Settings}
 use Rattle.outline.specs.declared.units.checks.SettingsFault.{SettingsFault}
 use Rattle.outline.specs.declared.units.checks.SettingsFault.TheVariants.{Units, Width}

@@ -1,4 +1,6 @@
 // The terms that every layer shares: directions, points, contours, settings, corner rules.
+#![tactic(auto)]
+
 mod contours;
 mod corners;
 mod directions;

@@ -1,145 +1,82 @@
 // From the bytes of a drawing record to what is printed of them.
-ghost use Rattle.std.specs.Prelude.{◌≡◌, ◌≤◌, length, drop, string_bytes, string_capacity};
-ghost use Rattle.unscaled.specs.Records.{entries};
-ghost use Rattle.card.specs.Cards.{card, refused_words};
-ghost use Rattle.card.specs.Lines.{line_of};
-ghost use Rattle.sheet.specs.Sheets.{contours_of, terms, Analysed, Fresh};
-ghost use Rattle.record_card.specs.Printed.{read_by, contours_card, points_card, record_card, printed};
+ghost use Rattle.std.specs.Prelude.{◌≡◌, drop, IfOk, vec_items, string_bytes};
+ghost use Rattle.unscaled.specs.Records.{Values, entries};
+ghost use Rattle.sheet.specs.Books.{book};
+ghost use Rattle.sheet.specs.Placing.{Contours, placed};
+ghost use Rattle.record_card.specs.Agreements.{Agrees, OutlineOf, values_of};
+ghost use Rattle.record_card.specs.Printed.{axis, contours_card, of_edit, record_card, printed};
 
-use crate::refusals::Refusal;
-use crate::rooms::CardRoom;
-use card::{card_into, refused_into};
-use outline::{Aot, CornerRule, Jit, Orientation};
-use segments::{Dimension, Segment};
-use sheet::{Sheet, SheetRoom};
+use crate::refusals::NoCard;
+use card::{card_text, refused_text};
+use outline::{Aot, Jit};
+use segments::{Dimension, Segment, TABLE_LEN};
+use sheet::{Drawing, Outline};
+use std::alloc::{AllocError, Global};
 use unscaled::{CornerCode, Header, RecordPoints};
 
-// The card of finished readings, where there is room for it.
-fn card_in(
-    text: String,
-    points: usize,
-    contours: usize,
-    orientation: Option<Orientation>,
-    horizontal: &[Segment],
-    vertical: &[Segment],
-) -> String
-    requires horizontal { length horizontal.now ≤ 1001 }
-    requires vertical { length vertical.now ≤ 1001 }
-    requires text { 192384 ≤ string_capacity text }
-    ensures { string_bytes result ≡ card points contours orientation horizontal.now vertical.now }
+// The record's points, placed on an empty sheet.
+fn record_drawing(heap: Global, bytes: &[u8]) -> Result<Drawing, NoCard>
+    ensures { Agrees result book (of_edit (placed 0 0 (entries (drop 8 bytes.now)))) }
 {
-    match card_into(text, points, contours, orientation, horizontal, vertical) {
-        Ok(text) => text,
-        Err(_) => unreachable(),
+    let mut drawing = Drawing::new(heap)?;
+    drawing.draw(&RecordPoints::of_record(bytes))?;
+    Ok(drawing)
+}
+
+// The drawing, analysed by the corner rule that the header names.
+fn analyze(heap: Global, header: Header, drawing: Drawing) -> Result<Outline, AllocError>
+    ensures { IfOk result (λ o. OutlineOf (values_of header) (book drawing) o) }
+{
+    match header.corner {
+        CornerCode::Jit => Outline::analyze(heap, &Jit, header.settings, drawing),
+        CornerCode::Aot => Outline::analyze(heap, &Aot, header.settings, drawing),
     }
 }
 
-fn refusal_in(refusal: String, number: u8) -> String
-    requires { 96 ≤ string_capacity refusal }
-    ensures { string_bytes result ≡ line_of (refused_words number) }
+// The finished segments of an axis.
+fn read_axis(heap: Global, outline: &Outline, dim: Dimension) -> Result<Vec<Segment>, NoCard>
+    ensures { (v : Values) (cs : Contours) → OutlineOf v cs outline.now → Agrees result vec_items (axis v dim cs) }
 {
-    match refused_into(refusal, number) {
-        Ok(text) => text,
-        Err(_) => unreachable(),
-    }
+    let mut table = vec![in heap; Segment::blank(); TABLE_LEN]?;
+    let count = outline.read(dim, &mut table)?;
+    table.truncate(count);
+    Ok(table)
 }
 
-// The card of a sheet. Both axes are read before any text is made.
-fn sheet_card<R: CornerRule>(
-    sheet: &Sheet<R>,
-    horizontal: &mut [Segment],
-    vertical: &mut [Segment],
-    text: String,
-) -> Result<String, Refusal>
-    requires horizontal { length horizontal.old ≡ 1001 }
-    requires vertical { length vertical.old ≡ 1001 }
-    requires text { 192384 ≤ string_capacity text }
-    ensures { Analysed R.CornerRule.flat sheet.now → read_by string_bytes result ≡ contours_card (terms R.CornerRule.flat sheet.now) (contours_of sheet.now) }
+// The card of an outline. Both axes are read before any text is made.
+fn outline_card(heap: Global, outline: &Outline) -> Result<String, NoCard>
+    ensures { (v : Values) (cs : Contours) → OutlineOf v cs outline.now → Agrees result string_bytes (contours_card v cs) }
 {
-    let across = sheet.read(Dimension::Horizontal, horizontal)?;
-    let along = sheet.read(Dimension::Vertical, vertical)?;
-    Ok(card_in(
-        text,
-        sheet.point_count(),
-        sheet.contour_count(),
-        sheet.orientation(),
-        &horizontal[0..across],
-        &vertical[0..along],
-    ))
+    let horizontal = read_axis(heap, outline, Dimension::Horizontal)?;
+    let vertical = read_axis(heap, outline, Dimension::Vertical)?;
+    let text = card_text(
+        heap,
+        outline.point_count(),
+        outline.contour_count(),
+        outline.orientation(),
+        horizontal.as_slice(),
+        vertical.as_slice(),
+    )?;
+    Ok(text)
 }
 
-// The card of a record's points, placed on an empty sheet.
-fn place_card<R: CornerRule + Drop>(
-    sheet: Sheet<R>,
-    bytes: &[u8],
-    horizontal: &mut [Segment],
-    vertical: &mut [Segment],
-    text: String,
-) -> Result<String, Refusal>
-    requires horizontal { length horizontal.old ≡ 1001 }
-    requires vertical { length vertical.old ≡ 1001 }
-    requires text { 192384 ≤ string_capacity text }
-    ensures { Fresh R.CornerRule.flat sheet → read_by string_bytes result ≡ points_card (terms R.CornerRule.flat sheet) (entries (drop 8 bytes.now)) }
-{
-    let mut sheet = sheet;
-    sheet.place(&RecordPoints::of_record(bytes))?;
-    sheet_card(&sheet, horizontal, vertical, text)
-}
-
-// The card of a record, in the parts of its room.
-fn card_of(
-    room: SheetRoom,
-    horizontal: &mut [Segment],
-    vertical: &mut [Segment],
-    text: String,
-    bytes: &[u8],
-) -> Result<String, Refusal>
-    requires horizontal { length horizontal.old ≡ 1001 }
-    requires vertical { length vertical.old ≡ 1001 }
-    requires text { 192384 ≤ string_capacity text }
-    ensures { read_by string_bytes result ≡ record_card bytes.now }
+// The card of a record.
+pub fn read_card(heap: Global, bytes: &[u8]) -> Result<String, NoCard>
+    ensures { Agrees result string_bytes (record_card bytes.now) }
 {
     let header = Header::read(bytes)?;
-    let settings = header.settings;
-    match header.corner {
-        CornerCode::Jit => {
-            let sheet = Sheet::in_room(room, settings, Jit);
-            place_card(sheet, bytes, horizontal, vertical, text)
-        }
-        CornerCode::Aot => {
-            let sheet = Sheet::in_room(room, settings, Aot);
-            place_card(sheet, bytes, horizontal, vertical, text)
-        }
-    }
-}
-
-// The card of a record, or why it has none.
-pub fn read_card(room: CardRoom, bytes: &[u8]) -> Result<String, Refusal>
-    ensures { read_by string_bytes result ≡ record_card bytes.now }
-{
-    let CardRoom {
-        sheet,
-        mut horizontal,
-        mut vertical,
-        text,
-        refusal: _,
-    } = room;
-    card_of(sheet, &mut horizontal, &mut vertical, text, bytes)
+    let drawing = record_drawing(heap, bytes)?;
+    let outline = analyze(heap, header, drawing)?;
+    outline_card(heap, &outline)
 }
 
 // The card of a record, or the text of its refusal.
-pub fn stem_card(room: CardRoom, bytes: &[u8]) -> String
-    ensures { string_bytes result ≡ printed bytes.now }
+pub fn stem_card(heap: Global, bytes: &[u8]) -> Result<String, AllocError>
+    ensures { IfOk result (λ s. string_bytes s ≡ printed bytes.now) }
 {
-    let CardRoom {
-        sheet,
-        mut horizontal,
-        mut vertical,
-        text,
-        refusal,
-    } = room;
-    match card_of(sheet, &mut horizontal, &mut vertical, text, bytes) {
-        Ok(text) => text,
-        Err(fault) => refusal_in(refusal, fault.number()),
+    match read_card(heap, bytes) {
+        Ok(text) => Ok(text),
+        Err(NoCard::Refused(refusal)) => refused_text(heap, refusal.number()),
+        Err(NoCard::Memory(e)) => Err(e),
     }
 }

@@ -2,9 +2,10 @@
 ghost use Rattle.std.specs.Prelude.{◌≡◌};
 ghost use Rattle.record_card.specs.Refusals.{number};
 ghost use Rattle.record_card.specs.declared.refusals.Refusal.TheVariants.{Record as OfRecord, Edit as OfEdit, Read as OfRead};
+ghost use Rattle.record_card.specs.declared.refusals.NoCard.TheVariants.{Refused as NotGranted, Memory as NoMemory};
 
-use drawing::EditFault;
-use reading::ReadFault;
+use sheet::{EditFault, ReadFault};
+use std::alloc::AllocError;
 use unscaled::RecordFault;
 
 // The first check that fails: of the record, of placing its points, of reading its segments.
@@ -28,26 +29,41 @@ impl Refusal {
     }
 }
 
-impl From<RecordFault> for Refusal {
-    ghost from_gives = { λ fault r. r ≡ OfRecord fault };
+// A refusal, or want of memory.
+#[derive(Clone, Copy)]
+pub enum NoCard {
+    Refused(Refusal),
+    Memory(AllocError),
+}
 
-    fn from(fault: RecordFault) -> Refusal {
-        Refusal::Record(fault)
+impl From<RecordFault> for NoCard {
+    ghost from_gives = { λ fault r. r ≡ NotGranted (OfRecord fault) };
+
+    fn from(fault: RecordFault) -> NoCard {
+        NoCard::Refused(Refusal::Record(fault))
     }
 }
 
-impl From<EditFault> for Refusal {
-    ghost from_gives = { λ fault r. r ≡ OfEdit fault };
+impl From<EditFault> for NoCard {
+    ghost from_gives = { λ fault r. r ≡ NotGranted (OfEdit fault) };
 
-    fn from(fault: EditFault) -> Refusal {
-        Refusal::Edit(fault)
+    fn from(fault: EditFault) -> NoCard {
+        NoCard::Refused(Refusal::Edit(fault))
     }
 }
 
-impl From<ReadFault> for Refusal {
-    ghost from_gives = { λ fault r. r ≡ OfRead fault };
+impl From<ReadFault> for NoCard {
+    ghost from_gives = { λ fault r. r ≡ NotGranted (OfRead fault) };
 
-    fn from(fault: ReadFault) -> Refusal {
-        Refusal::Read(fault)
+    fn from(fault: ReadFault) -> NoCard {
+        NoCard::Refused(Refusal::Read(fault))
+    }
+}
+
+impl From<AllocError> for NoCard {
+    ghost from_gives = { λ e r. r ≡ NoMemory e };
+
+    fn from(e: AllocError) -> NoCard {
+        NoCard::Memory(e)
     }
 }

@@ -1,13 +1,18 @@
 // Runs stored drawing records, and compares every value with the answers stored beside them.
-mod reports;
-mod stored;
-mod texts;
+#![tactic(auto)]
 
-use reports::report;
+mod digits;
+mod lines;
+mod stored;
+mod tallies;
+mod texts;
+mod words;
+
+use digits::from_hex;
 use std::io::{BufRead, BufReader};
 use std::{env, io};
 use stored::Stored;
-use telling::{Tally, from_hex};
+use tallies::Tally;
 use texts::record_text;
 
 // Whether the program is asked to print answers, rather than to compare stored ones.
@@ -39,7 +44,7 @@ fn compare_answers(rt: &HostRuntime) -> io::Result<()> {
     for line in BufReader::new(heap, rt.stdin())?.lines(heap) {
         stored.take_line(heap, line?.as_str(), &mut tally)?;
     }
-    rt.print(report(heap, &tally)?)
+    rt.print(tally.report(heap)?)
 }
 
 fn main(rt: HostRuntime) -> io::Result<()> {

@@ -1,9 +1,10 @@
 // Stored records: a line `record` with the bytes as hexadecimal digits, the lines of the answer, and a
 // line `end`.
+use crate::digits::from_hex;
+use crate::tallies::Tally;
 use crate::texts::record_text;
 use std::alloc::Global;
 use std::io;
-use telling::{Tally, from_hex};
 
 // The record that is being read, and its answer so far.
 #[derive(Drop)]

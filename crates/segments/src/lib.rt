@@ -1,4 +1,6 @@
 // Segments of an outline along one axis.
+#![tactic(auto)]
+
 mod closing;
 mod faults;
 mod laws;

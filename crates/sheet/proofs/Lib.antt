@@ -1,8 +1,4 @@
-pub mod Outcomes
-pub mod Spans
-pub mod Fresh
-pub mod Read
-pub mod Redrawn
-pub mod Runs
-pub mod Alone
-pub mod Moved
+pub mod Tiled
+pub mod Placed
+pub mod Standing
+pub mod Built

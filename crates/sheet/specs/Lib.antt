@@ -1,4 +1,6 @@
-pub mod Book
-pub mod Sheets
-pub mod Laws
+pub mod Faults
+pub mod Tilings
+pub mod Placing
+pub mod Books
+pub mod Readings
 pub mod Alone

@@ -1,8 +1,11 @@
-// A sheet: one glyph while it is edited, with the records and readings of what it holds now.
-mod laws;
-mod rooms;
-mod sheets;
+// From a source of points to an outline's contours, records and segments.
+#![tactic(auto)]
 
-pub use laws::laws_stand;
-pub use rooms::SheetRoom;
-pub use sheets::Sheet;
+mod drawings;
+mod faults;
+mod outlines;
+
+pub use drawings::Drawing;
+pub use faults::EditFault;
+pub use outlines::Outline;
+pub use outlines::reading::ReadFault;

@@ -1,5 +1,7 @@
 // Reads a drawing record from standard input and prints its stem card, or why it has none.
-use record_card::{CardRoom, stem_card};
+#![tactic(auto)]
+
+use record_card::stem_card;
 use std::io;
 use std::io::Read;
 
@@ -9,6 +11,6 @@ fn main(rt: HostRuntime) -> io::Result<()> {
     let heap = rt.alloc();
     let mut bytes = Vec::new(heap);
     rt.stdin().take(MOST_BYTES).read_to_end(&mut bytes)?;
-    let room = CardRoom::new(heap)?;
-    rt.print(stem_card(room, bytes.as_slice()))
+    let text = stem_card(heap, bytes.as_slice())?;
+    rt.print(text)
 }

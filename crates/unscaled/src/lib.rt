@@ -1,4 +1,6 @@
 // Drawings as sources of points: tables, records, and placements over any source.
+#![tactic(auto)]
+
 mod faults;
 mod headers;
 mod placements;

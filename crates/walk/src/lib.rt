@@ -1,4 +1,6 @@
 // The walk round one contour: its steps are added up, and each sum that is long enough gives a direction.
+#![tactic(auto)]
+
 mod ends;
 mod legs;
 mod marks;

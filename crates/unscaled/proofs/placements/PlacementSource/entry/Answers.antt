@@ -17,6 +17,6 @@ returns g c =
     let self = c.args.self.now in
     let fx : SFits w32 c.args.self.now.dx = search rules in
     let fy : SFits w32 c.args.self.now.dy = search rules in
-    let is = moved-point self.dx self.dy c.args.index c.entry.result _ (sym c.pass-on.ensures ∙ c.in-ok-point.was) in
-    let h = placed-entry self.dx self.dy c.args.index _ _ c.entry.result _ c.entry.ensures.value c.entry.ensures.fault (simp to_z-of_z at c.move-point.ensures ∙ is) in
+    let is = moved-point self.dx self.dy c.args.index c.entry.result _ (sym c.pass_on.ensures ∙ c.in_ok-point.was) in
+    let h = placed-entry self.dx self.dy c.args.index _ _ c.entry.result _ c.entry.ensures.value c.entry.ensures.fault (simp to_z-of_z at c.move_point.ensures ∙ is) in
     record { value = h.0; fault = h.1 }

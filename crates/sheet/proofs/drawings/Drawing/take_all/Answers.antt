@@ -1,0 +1,24 @@
+use Rattle.std.proofs.Common.{◌<◌, length, sym, refl, ◌∙◌, arith}
+use Rattle.std.proofs.lemmas.Result.{err_from_is_err_and}
+use Rattle.std.proofs.lemmas.List.{at_drop_all}
+use Rattle.unscaled.specs.Entries.{past_count}
+use Rattle.sheet.specs.Books.{book}
+use Rattle.sheet.specs.Placing.{drawn_from}
+use Rattle.sheet.proofs.Placed.{drawn-more, drawn_stops}
+use Rattle.sheet.proofs.drawings.Drawing.take_all.Goals as goal
+
+pub returns-in-err-take-entry : goal.returns-in-err-take-entry
+returns-in-err-take-entry g c =
+    let p = err_from_is_err_and c.from-residual.result c.from-residual.ensures.1 in
+    let here : c.loop-i.i < length (g.S.Source.list c.args.source.now) = omega (arith, c.loop-i-test.true, c.count-i-end.ensures) in
+    rw (p.1, p.2) (drawn_stops _ c.loop-i.i _ (book c.loop-i.self) here _ c.in-err-take-entry.ensures.book ∙ c.loop-i.invariant.2)
+
+pub loop-i-preserved : goal.loop-i-preserved
+loop-i-preserved g c =
+    let here : c.loop-i.i < length (g.S.Source.list c.args.source.now) = omega (arith, c.loop-i-test.true, c.count-i-end.ensures) in
+    let e = c.in-ok-take-entry.ensures in
+    (c.loop-i.invariant.0, omega (arith, e.len refl, c.loop-i.invariant.1), drawn-more _ c.loop-i.i _ (book c.loop-i.self) here _ e.book ∙ c.loop-i.invariant.2)
+
+pub returns : goal.returns
+returns g c =
+    sym (at_drop_all (drawn_from 0 (book c.loop-i.self)) (g.S.Source.list c.args.source.now) c.loop-i.i (omega (arith, c.loop-i-test.false, c.count-i-end.ensures))) ∙ c.loop-i.invariant.2

@@ -1,0 +1,10 @@
+use Rattle.std.proofs.Common.{rules}
+use Rattle.sheet.proofs.Built.{built-alone}
+use Rattle.sheet.proofs.outlines.Outline.build.Goals as goal
+
+pub returns : goal.returns
+returns c = record {
+  short = search rules;
+  built = search rules;
+  alone = λ flat a _. built-alone flat c.args.dim c.args.self.now c.args.table.now c.build-into.new.table c.build-into.result c.build-into.ensures a;
+}

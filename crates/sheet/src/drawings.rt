@@ -1,0 +1,20 @@
+// What is drawn on a sheet: points, and where its contours lie among them.
+ghost use Rattle.std.specs.Prelude.{◌≡◌, ◌≤◌, true, vec_len, vec_capacity};
+ghost use Rattle.sheet.specs.Tilings.{tiles};
+
+use outline::{Contour, DrawnPoint};
+
+// At most 2,048 points in at most 128 contours, which cover the points one after another.
+// The room for them is reserved when the drawing is made, so that no later call wants memory.
+#[derive(Drop)]
+pub struct Drawing {
+    points: Vec<DrawnPoint>,
+    contours: Vec<Contour>,
+    ghost few_points: { vec_len points ≤ 2048 },
+    ghost few_contours: { vec_len contours ≤ 128 },
+    ghost points_room: { 2048 ≤ vec_capacity points },
+    ghost contours_room: { 128 ≤ vec_capacity contours },
+    ghost tiled: { tiles 0 (vec_len points) contours.items ≡ true },
+}
+
+pub mod making;

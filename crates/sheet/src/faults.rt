@@ -1,0 +1,39 @@
+// Why an edit is refused.
+ghost use Rattle.std.specs.Prelude.{◌≡◌};
+ghost use Rattle.sheet.specs.Faults.{number};
+ghost use Rattle.sheet.specs.declared.faults.EditFault.TheVariants.{Source as FromSource};
+
+use unscaled::SourceFault;
+
+#[derive(Clone, Copy)]
+pub enum EditFault {
+    NoPoints,
+    TooManyPoints,
+    OutOfRange,
+    TooManyContours,
+    Source(SourceFault),
+}
+
+impl EditFault {
+    // The number of the refusal; a source's fault keeps its own.
+    pub fn number(&self) -> u8
+        ensures { result ≡ number self.now }
+    {
+        match self {
+            EditFault::NoPoints => 12,
+            EditFault::TooManyPoints => 13,
+            EditFault::OutOfRange => 14,
+            EditFault::TooManyContours => 15,
+            EditFault::Source(fault) => fault.number(),
+        }
+    }
+}
+
+// A source's fault comes up whole.
+impl From<SourceFault> for EditFault {
+    ghost from_gives = { λ fault r. r ≡ FromSource fault };
+
+    fn from(fault: SourceFault) -> EditFault {
+        EditFault::Source(fault)
+    }
+}

@@ -6,5 +6,5 @@ use Rattle.unscaled.proofs.records.split_entry.Goals as goal
 pub returns-in-len5-up : goal.returns-in-len5-up
 returns-in-len5-up c = rw (take_rest c.args.bytes.now 5, c.point_of.ensures) (entries-more c.args.index c.args.bytes.now (search rules))
 
-pub returns-in-default : goal.returns-in-default
-returns-in-default c = search (rules, entries_none)
+pub returns-in_default : goal.returns-in_default
+returns-in_default c = search (rules, entries_none)

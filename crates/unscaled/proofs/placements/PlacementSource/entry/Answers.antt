@@ -4,11 +4,11 @@ use Rattle.std.proofs.lemmas.Result.{err_from_is_err_and}
 use Rattle.unscaled.proofs.Moves.{moved-point, moved_fault, placed-entry}
 use Rattle.unscaled.proofs.placements.PlacementSource.entry.Goals as goal
 
-pub returns-in-err-point : goal.returns-in-err-point
-returns-in-err-point g c =
+pub returns-in_err-point : goal.returns-in_err-point
+returns-in_err-point g c =
     let self = c.args.self.now in
-    let p = err_from_is_err_and c.from-residual.result c.from-residual.ensures.1 in
-    let is = moved_fault self.dx self.dy c.args.index c.entry.result _ (sym c.pass-on.ensures ∙ c.in-err-point.was) in
+    let p = err_from_is_err_and c.from_residual.result c.from_residual.ensures.1 in
+    let is = moved_fault self.dx self.dy c.args.index c.entry.result _ (sym c.pass_on.ensures ∙ c.in_err-point.was) in
     let h = placed-entry self.dx self.dy c.args.index _ _ c.entry.result _ c.entry.ensures.value c.entry.ensures.fault is in
     rw (p.1, p.2) (record { value = h.0; fault = h.1 })
 

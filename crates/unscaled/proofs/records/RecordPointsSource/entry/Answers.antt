@@ -4,8 +4,8 @@ use Rattle.unscaled.specs.Records.{entries_from}
 use Rattle.unscaled.proofs.Bytes.{entry_at, entry_past, first_tells}
 use Rattle.unscaled.proofs.records.RecordPointsSource.entry.Goals as goal
 
-pub returns-then-index-whole-points : goal.returns-then-index-whole-points
-returns-then-index-whole-points c = search (rules, entry_past)
+pub returns-then-index-whole_points : goal.returns-then-index-whole_points
+returns-then-index-whole_points c = search (rules, entry_past)
 
 pub returns-in-Some : goal.returns-in-Some
 returns-in-Some c =

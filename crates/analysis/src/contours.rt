@@ -30,8 +30,8 @@ pub fn analyze_contour<R: CornerRule>(
 )
     requires points_nonzero { (0 < length points.now) × (base + length points.now ≤ 2048) }
     requires legs_len { (length legs.old ≡ length points.now) × ((length marks.old ≡ length points.now) × (length out.old ≡ length points.now)) }
-    ensures value { out.new ≡ analysed (flat rule.now) (near_limit settings.now.units) base points.now }
-    ensures alone { out.new ≡ map (shifted base) (analysed (flat rule.now) (near_limit settings.now.units) 0 points.now) }
+    ensures value { out.new ≡ analysed (R.flat rule.now) (near_limit settings.now.units) base points.now }
+    ensures alone { out.new ≡ map (shifted base) (analysed (R.flat rule.now) (near_limit settings.now.units) 0 points.now) }
 {
     clear_marks(marks);
     compute_directions(settings, points, legs, marks);

@@ -19,7 +19,7 @@ fn analyze_span<R: CornerRule>(
 )
     requires first_lt_end { (contour.first < contour.end) × ((contour.end ≤ length points.now) × (length points.now ≤ 2048)) }
     requires legs_len { (length legs.old ≡ length points.now) × ((length marks.old ≡ length points.now) × (length out.old ≡ length points.now)) }
-    ensures { out.new ≡ replaced (flat rule.now) (near_limit settings.now.units) contour points.now out.old }
+    ensures { out.new ≡ replaced (R.flat rule.now) (near_limit settings.now.units) contour points.now out.old }
 {
     let first = contour.first;
     let end = contour.end;
@@ -47,8 +47,8 @@ pub fn analyze_outline<R: CornerRule>(
 )
     requires tiles { (Tiles 0 (length points.now) contours.now) × (length points.now ≤ 2048) }
     requires legs_len { (length legs.old ≡ length points.now) × ((length marks.old ≡ length points.now) × (length out.old ≡ length points.now)) }
-    ensures value { out.new ≡ outline_records (flat rule.now) (near_limit settings.now.units) 0 (cut_out contours.now points.now) }
-    ensures alone { StandAlone (flat rule.now) (near_limit settings.now.units) contours.now points.now out.new }
+    ensures value { out.new ≡ outline_records (R.flat rule.now) (near_limit settings.now.units) 0 (cut_out contours.now points.now) }
+    ensures alone { StandAlone (R.flat rule.now) (near_limit settings.now.units) contours.now points.now out.new }
 {
     for contour in contours {
         analyze_span(rule, settings, points, *contour, legs, marks, out);

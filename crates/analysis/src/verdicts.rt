@@ -33,7 +33,7 @@ fn judge_directed(in_dir: Direction, out_dir: Direction) -> Verdict
 
 fn judge_corner<R: CornerRule>(rule: &R, points: &[DrawnPoint], i: usize, mark: Mark) -> Verdict
     requires { (i < length points.now) × (Linked (length points.now) mark) }
-    ensures { result ≡ judged_corner (flat rule.now) points.now i mark }
+    ensures { result ≡ judged_corner (R.flat rule.now) points.now i mark }
 {
     let (came, goes) = vectors(points, i, mark);
     if rule.is_flat(came.dx, came.dy, goes.dx, goes.dy) {
@@ -45,7 +45,7 @@ fn judge_corner<R: CornerRule>(rule: &R, points: &[DrawnPoint], i: usize, mark: 
 
 fn judge<R: CornerRule>(rule: &R, points: &[DrawnPoint], i: usize, mark: Mark) -> Verdict
     requires { (i < length points.now) × (Linked (length points.now) mark) }
-    ensures { result ≡ judged (flat rule.now) points.now i mark }
+    ensures { result ≡ judged (R.flat rule.now) points.now i mark }
 {
     if mark.weak {
         Verdict::Keep
@@ -73,7 +73,7 @@ fn apply_verdict(verdict: Verdict, i: usize, mark: Mark, marks: &mut [Mark])
 
 fn check_at<R: CornerRule>(rule: &R, points: &[DrawnPoint], i: usize, marks: &mut [Mark])
     requires { (i < length points.now) × ((length marks.old ≡ length points.now) × (All (Linked (length points.now)) marks.old)) }
-    ensures { marks.new ≡ checked_at (flat rule.now) points.now i marks.old }
+    ensures { marks.new ≡ checked_at (R.flat rule.now) points.now i marks.old }
 {
     let mark = marks[i];
     let verdict = judge(rule, points, i, mark);
@@ -86,7 +86,7 @@ pub fn check_remaining_weak_points<R: CornerRule>(
     marks: &mut [Mark],
 )
     requires { (length marks.old ≡ length points.now) × (All (Linked (length points.now)) marks.old) }
-    ensures { marks.new ≡ checked (flat rule.now) points.now marks.old }
+    ensures { marks.new ≡ checked (R.flat rule.now) points.now marks.old }
 {
     for i in 0..points.len() {
         check_at(rule, points, i, marks);

@@ -3,21 +3,21 @@ use Rattle.analysis.proofs.Tilings.{turn, written_none, written_more, written_al
 use Rattle.analysis.proofs.outlines.analyze_outline.Goals as goal
 
 pub loop-contour-init : goal.loop-contour-init
-loop-contour-init g c = written_none _ _ c.args.points.now c.args.contours.now c.args.out.now c.requires.0.0
+loop-contour-init g c = written_none _ _ c.args.points.now c.args.contours.now c.args.out.now c.requires.tiles.0
 
-pub analyze-span-requires : goal.analyze-span-requires
-analyze-span-requires g c =
+pub analyze_span-requires : goal.analyze_span-requires
+analyze_span-requires g c =
     let w = c.loop-contour.invariant in
     let t = turn _ c.args.contours.now c.loop-contour.contour-index w.from _ c.loop-contour-test.true w.tiles in
-    ((t.some, (t.fits, omega arith)), (omega arith, (omega arith, omega arith)))
+    (record { first_lt_end = (t.some, (t.fits, omega arith)); legs_len = (omega arith, (omega arith, omega arith)) })
 
 pub loop-contour-preserved : goal.loop-contour-preserved
 loop-contour-preserved g c =
     written_more _ _ c.args.points.now c.args.contours.now c.loop-contour.out _ c.loop-contour.contour-index _
-    c.loop-contour-test.true (omega arith) c.loop-contour.invariant c.analyze-span.ensures
+    c.loop-contour-test.true (omega arith) c.loop-contour.invariant c.analyze_span.ensures
 
 pub returns : goal.returns
 returns g c =
     let v = written_all _ _ c.args.points.now c.args.contours.now c.loop-contour.out c.loop-contour.contour-index
     c.loop-contour-test.false (omega arith) c.loop-contour.invariant in
-    record { value = v; alone = stand_alone _ _ c.args.contours.now c.args.points.now _ c.requires.0.0 v }
+    record { value = v; alone = stand_alone _ _ c.args.contours.now c.args.points.now _ c.requires.tiles.0 v }

@@ -10,4 +10,4 @@ returns c =
     let fx : SFits w16 (get_or ps c.args.i origin).x = search rules in
     let fy : SFits w16 (get_or ps c.args.i origin).y = search rules in
     record_is _ _ c.args.points.now c.args.marks.now c.args.i _ _ _ _ _ _ _ (to_z-of_z w16 _ fx) (to_z-of_z w16 _ fy)
-    c.is-near-near.ensures c.next-of.ensures.value c.prev-of.ensures.value c.index-at.ensures c.index-at-2.ensures
+    c.is_near-near.ensures c.next_of.ensures.value c.prev_of.ensures.value c.index_at.ensures c.index_at-2.ensures

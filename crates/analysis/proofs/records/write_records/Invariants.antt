@@ -3,4 +3,4 @@ use Rattle.analysis.specs.Records.{record_at}
 use Rattle.analysis.proofs.records.write_records.Given as goal
 
 abbrev pub invariant-loop-i : goal.invariant-loop-i
-invariant-loop-i l = (k : ℕ) → k < l.i → get_or l.out k (record_at 0 0 l.points l.marks 0) ≡ record_at l.near-limit l.base l.points l.marks k
+invariant-loop-i l = (k : ℕ) → k < l.i → get_or l.out k (record_at 0 0 l.points l.marks 0) ≡ record_at l.near_limit l.base l.points l.marks k

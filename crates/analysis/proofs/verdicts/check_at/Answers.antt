@@ -7,10 +7,10 @@ pub judge-verdict-requires : goal.judge-verdict-requires
 judge-verdict-requires g c =
     (search rules, linked-one (length c.args.points.now) c.args.i c.args.marks.now (omega arith) (omega arith) (search rules))
 
-pub apply-verdict-requires : goal.apply-verdict-requires
-apply-verdict-requires g c =
+pub apply_verdict-requires : goal.apply_verdict-requires
+apply_verdict-requires g c =
     let k = linked-one (length c.args.points.now) c.args.i c.args.marks.now (omega arith) (omega arith) (search rules) in
     (omega arith, (omega (arith, k.0), omega (arith, k.1)))
 
 pub returns : goal.returns
-returns g c = checked_step _ _ _ c.args.marks.now _ _ c.judge-verdict.ensures c.apply-verdict.ensures
+returns g c = checked_step _ _ _ c.args.marks.now _ _ c.judge-verdict.ensures c.apply_verdict.ensures

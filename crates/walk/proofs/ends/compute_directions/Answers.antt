@@ -7,8 +7,8 @@ use Rattle.walk.proofs.ends.compute_directions.Goals as goal
 pub returns : goal.returns
 returns c =
     let v = whole _ _ c.args.points.now c.args.marks.now _ _ _ _ _
-    c.near-limit-near-limit.ensures.value c.find-start-start.ensures.value (omega arith)
-    c.cut-steps.ensures c.spread-directions.ensures c.deal-legs.ensures in
+    c.near_limit-near_limit.ensures.value c.find_start-start.ensures.value (omega arith)
+    c.cut_steps.ensures c.spread_directions.ensures c.deal_legs.ensures in
     record {
       value = v;
       round = walked-round _ c.args.points.now (omega arith) c.args.marks.now (omega arith) _ v;

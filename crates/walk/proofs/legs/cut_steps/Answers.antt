@@ -8,7 +8,7 @@ loop-k-preserved c = (
   search rules,
   cuts-more _ c.args.points.now c.loop-k.legs c.loop-k.k c.loop-k.at c.loop-k.sum _ _ _ _ _
       (omega arith) (omega arith)
-      c.step-at.ensures.value c.add.ensures.value c.cut.ensures.leg c.cut.ensures.rest c.next-of-at.ensures.value
+      c.step_at.ensures.value c.add.ensures.value c.cut.ensures.leg c.cut.ensures.rest c.next_of-at.ensures.value
       ∙ c.loop-k.invariant.2,
 )
 

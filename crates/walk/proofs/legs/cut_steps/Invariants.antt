@@ -7,5 +7,5 @@ use Rattle.walk.proofs.legs.cut_steps.Given as goal
 abbrev pub invariant-loop-k : goal.invariant-loop-k
 invariant-loop-k l =
     (l.at < length l.points) × (taxicab l.sum ≤ 2 ^ 16)
-    × (take l.k l.legs ++ cuts l.near-limit l.sum (steps_from l.points l.at (length l.points - l.k))
-    ≡ cuts l.near-limit no_step (steps_from l.points l.start (length l.points)))
+    × (take l.k l.legs ++ cuts l.near_limit l.sum (steps_from l.points l.at (length l.points - l.k))
+    ≡ cuts l.near_limit no_step (steps_from l.points l.start (length l.points)))

@@ -5,8 +5,8 @@ use Rattle.segments.proofs.Overfull.{read_justly}
 use Rattle.segments.proofs.Within.{read-within}
 use Rattle.segments.proofs.readings.build_segments.Goals as goal
 
-pub blank-from-requires : goal.blank-from-requires
-blank-from-requires c =
+pub blank_from-requires : goal.blank_from-requires
+blank_from-requires c =
     omega (
       arith,
       used_few c.args.dim c.units.result c.args.points.now c.args.contours.now c.args.table.now c.fill-filled.new.table
@@ -15,15 +15,15 @@ blank-from-requires c =
 
 pub returns : goal.returns
 returns c =
-    let r : Read c.args.dim c.args.settings.now.units c.args.points.now c.args.contours.now c.args.table.now c.blank-from.new.table c.fill-filled.result
+    let r : Read c.args.dim c.args.settings.now.units c.args.points.now c.args.contours.now c.args.table.now c.blank_from.new.table c.fill-filled.result
     = read_is c.args.dim c.units.result c.args.settings.now.units c.args.points.now c.args.contours.now
-    c.args.table.now c.fill-filled.new.table c.blank-from.new.table c.units.ensures.value (omega arith)
+    c.args.table.now c.fill-filled.new.table c.blank_from.new.table c.units.ensures.value (omega arith)
     c.fill-filled.result c.fill-filled.ensures
-    (c.blank-from.ensures ∙ ap (λ (n : ℕ). take n c.fill-filled.new.table ++ blanks (length c.fill-filled.new.table - n)) c.used.ensures) in
+    (c.blank_from.ensures ∙ ap (λ (n : ℕ). take n c.fill-filled.new.table ++ blanks (length c.fill-filled.new.table - n)) c.used.ensures) in
     record {
       read = r;
       justly = read_justly c.args.dim c.args.settings.now.units c.args.points.now c.args.contours.now
-          c.args.table.now c.blank-from.new.table c.fill-filled.result r;
+          c.args.table.now c.blank_from.new.table c.fill-filled.result r;
       within = read-within c.args.dim c.args.settings.now.units c.args.points.now c.args.contours.now
-          c.args.table.now c.blank-from.new.table c.fill-filled.result c.requires.contours r;
+          c.args.table.now c.blank_from.new.table c.fill-filled.result c.requires.contours r;
     }

@@ -5,8 +5,8 @@ use Rattle.segments.proofs.readings.fill.Goals as goal
 pub loop-contour-init : goal.loop-contour-init
 loop-contour-init c = filling_none c.args.dim c.args.units c.args.points.now c.args.contours.now c.args.table.now c.requires.contours
 
-pub build-one-requires : goal.build-one-requires
-build-one-requires c = record {
+pub build_one-requires : goal.build_one-requires
+build_one-requires c = record {
   points = c.requires.points;
   start = starts c.args.dim c.args.units c.args.points.now c.args.contours.now c.args.table.now c.loop-contour.contour-index
       c.loop-contour.held c.loop-contour.table (record { first = 0; end = 0 }) c.loop-contour.invariant c.loop-contour-test.true;
@@ -16,20 +16,20 @@ build-one-requires c = record {
   held = c.loop-contour.invariant.small;
 }
 
-pub returns-in-err-held : goal.returns-in-err-held
-returns-in-err-held c =
-    filled_err c.args.dim c.args.units c.args.points.now c.args.contours.now c.args.table.now c.build-one.new.table
-    c.from-residual.result c.from-residual.ensures.0
+pub returns-in_err-held : goal.returns-in_err-held
+returns-in_err-held c =
+    filled_err c.args.dim c.args.units c.args.points.now c.args.contours.now c.args.table.now c.build_one.new.table
+    c.from_residual.result c.from_residual.ensures.0
     (filling_breaks c.args.dim c.args.units c.args.points.now c.args.contours.now c.args.table.now c.loop-contour.contour-index
     c.loop-contour.held c.loop-contour.table (record { first = 0; end = 0 }) c.loop-contour.invariant c.loop-contour-test.true
-    c.in-err-held.ensures)
+    c.in_err-held.ensures)
 
 pub loop-contour-preserved : goal.loop-contour-preserved
 loop-contour-preserved c =
     filling_more c.args.dim c.args.units c.args.points.now c.args.contours.now c.args.table.now c.loop-contour.contour-index
     c.loop-contour.held c.loop-contour.table (record { first = 0; end = 0 }) c.loop-contour.invariant c.loop-contour-test.true
-    c.in-ok-held.held c.build-one.new.table
-    c.in-ok-held.ensures.0 c.in-ok-held.ensures.1 c.in-ok-held.ensures.2 c.in-ok-held.ensures.3
+    c.in_ok-held.held c.build_one.new.table
+    c.in_ok-held.ensures.0 c.in_ok-held.ensures.1 c.in_ok-held.ensures.2 c.in_ok-held.ensures.3
     c.requires.table
 
 pub returns : goal.returns

@@ -10,10 +10,10 @@ returns-in-empty c =
 
 pub returns-in-len1 : goal.returns-in-len1
 returns-in-len1 c =
-    lone-answer c.args.units c.args.held c.args.table.now c.build-lone.new.table c.args.dim c.args.first c.args.points.now _
-    c.build-lone.result (omega (arith, ltb-true, ltb-false)) (omega (arith, ltb-true, ltb-false)) c.build-lone.ensures
+    lone-answer c.args.units c.args.held c.args.table.now c.build_lone.new.table c.args.dim c.args.first c.args.points.now _
+    c.build_lone.result (omega (arith, ltb-true, ltb-false)) (omega (arith, ltb-true, ltb-false)) c.build_lone.ensures
 
-pub returns-in-default : goal.returns-in-default
-returns-in-default c =
-    round-answer c.args.units c.args.held c.args.table.now c.build-round.new.table c.args.dim c.args.first c.args.points.now
-    c.build-round.result (omega (arith, ltb-true, ltb-false)) c.build-round.ensures
+pub returns-in_default : goal.returns-in_default
+returns-in_default c =
+    round-answer c.args.units c.args.held c.args.table.now c.build_round.new.table c.args.dim c.args.first c.args.points.now
+    c.build_round.result (omega (arith, ltb-true, ltb-false)) c.build_round.ensures

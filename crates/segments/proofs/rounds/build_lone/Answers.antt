@@ -8,7 +8,7 @@ use Rattle.segments.proofs.rounds.build_lone.Goals as goal
 
 pub returns : goal.returns
 returns c =
-    let few : c.args.held ≤ 1000 = ltb-false 1000 c.args.held (sym c.is-full.ensures ∙ c.if-is-full.false) in (
+    let few : c.args.held ≤ 1000 = ltb-false 1000 c.args.held (sym c.is_full.ensures ∙ c.if-is_full.false) in (
       omega arith,
       refl,
       ap (set c.args.table.now c.args.held) (

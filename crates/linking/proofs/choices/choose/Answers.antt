@@ -11,7 +11,7 @@ pass-requires c =
     let r = c.args.rule.now in
     let n = c.args.n in
     let F = stage r (at xs) n c.loop-i.i 0 in
-    (subst (λ S. Shows t n S t) (sym (stage_of r xs t n c.loop-i.i 0 F c.loop-i.invariant (λ k h. refl))) (shows_self xs t n F c.loop-i.invariant), (omega arith, omega arith, omega arith, omega arith))
+    (record { shows = subst (λ S. Shows t n S t) (sym (stage_of r xs t n c.loop-i.i 0 F c.loop-i.invariant (λ k h. refl))) (shows_self xs t n F c.loop-i.invariant); i_lt_n = (omega arith, omega arith, omega arith, omega arith) })
 
 pub loop-i-preserved : goal.loop-i-preserved
 loop-i-preserved c =

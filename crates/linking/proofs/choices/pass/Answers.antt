@@ -17,14 +17,14 @@ loop-j-preserved c =
     let e : c.score-score.result ≡ pair_score r (at xs i) (at xs j) = c.score-score.ensures ∙ ap (pair_score r (at xs i)) (c.loop-j.invariant.front j c.loop-j-test.true) in
     shows_step r xs t c.meet.new.table c.args.n i j (omega arith) (omega arith) (omega arith) c.loop-j.invariant (c.meet.ensures ∙ ap (exchanged t i j) e)
 
-pub returns-then-not-has-direction : goal.returns-then-not-has-direction
-returns-then-not-has-direction c =
+pub returns-then-not-has_direction : goal.returns-then-not-has_direction
+returns-then-not-has_direction c =
     let xs = c.args.table.now in
     let r = c.args.rule.now in
     let n = c.args.n in
     let i = c.args.i in
-    let d : same (at xs i).dir r.major ≡ false = sym {b = same (at xs i).dir r.major} c.if-not-has-direction.ensures in
-    shows_like xs n (stage r (at xs) n i 0) (stage r (at xs) n (i + 1) 0) xs (λ k h. skip r (at xs) n i k d) c.requires.0
+    let d : same (at xs i).dir r.major ≡ false = sym {b = same (at xs i).dir r.major} c.if-not-has_direction.ensures in
+    shows_like xs n (stage r (at xs) n i 0) (stage r (at xs) n (i + 1) 0) xs (λ k h. skip r (at xs) n i k d) c.requires.shows
 
 pub returns : goal.returns
 returns c =

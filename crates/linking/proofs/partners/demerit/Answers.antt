@@ -6,5 +6,5 @@ use Rattle.linking.proofs.partners.demerit.Goals as goal
 square : (e : ℕ) → e ≤ 10000 → e * e / 3000 ≤ 65535
 square e h = omega (arith, mul-le-mul h h)
 
-pub returns-else-excess-gt-MAX-EXCESS : goal.returns-else-excess-gt-MAX-EXCESS
-returns-else-excess-gt-MAX-EXCESS c = record { value = grind (arith, nat_tests); bound = square _ (omega arith) }
+pub returns-else-excess-gt-MAX_EXCESS : goal.returns-else-excess-gt-MAX_EXCESS
+returns-else-excess-gt-MAX_EXCESS c = record { value = grind (arith, nat_tests); bound = square _ (omega arith) }

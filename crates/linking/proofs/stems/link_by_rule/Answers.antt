@@ -6,7 +6,7 @@ use Rattle.linking.proofs.Finished.{unsettled, shows-finished, is_linked, linkin
 use Rattle.linking.proofs.stems.link_by_rule.Goals as goal
 
 pub settle-requires : goal.settle-requires
-settle-requires c = (unsettled c.args.rule.now c.args.n c.args.table.now c.choose.new.table c.choose.ensures, (omega arith, omega arith))
+settle-requires c = (record { unsettled = unsettled c.args.rule.now c.args.n c.args.table.now c.choose.new.table c.choose.ensures; n_in_bounds = (omega arith, omega arith) })
 
 pub returns : goal.returns
 returns c =

@@ -6,14 +6,14 @@ use Rattle.linking.specs.Links.{picks}
 use Rattle.linking.specs.Passes.{released}
 use Rattle.linking.proofs.stems.release.Goals as goal
 
-pub overflow-cast-other : goal.overflow-cast-other
-overflow-cast-other c = let h : c.in-Some.t < c.args.n = c.requires.1 c.in-Some.t c.in-Some.is in omega arith
+pub overflow_cast-other : goal.overflow_cast-other
+overflow_cast-other c = let h : c.in-Some.t < c.args.n = c.requires.by_index c.in-Some.t c.in-Some.is in omega arith
 
-pub returns-in-default : goal.returns-in-default
-returns-in-default c =
+pub returns-in_default : goal.returns-in_default
+returns-in_default c =
     let xs = c.args.table.now in
     let i = c.args.i in
-    sym (set-get_or xs i blank) ∙ ap (set xs i) (sym (ap (released (at xs) i) c.in-default.is))
+    sym (set-get_or xs i blank) ∙ ap (set xs i) (sym (ap (released (at xs) i) c.in_default.is))
 
 pub returns-else-not-picks : goal.returns-else-not-picks
 returns-else-not-picks c =

@@ -16,10 +16,10 @@ release-requires c =
     let i = c.loop-i.i in
     let n = c.args.n in
     let same : at c.loop-i.table i ≡ at xs i = c.loop-i.invariant.front i c.loop-i-test.true ∙ cond-false (ltb i i) (settled (held_choice n xs) (at xs) i) (at xs i) (le-ltb i i (omega arith)) in
-    ((omega arith, omega arith, omega arith), λ t e. c.requires.0.within i t c.loop-i-test.true (ap (λ (s : Segment). s.link) (sym same) ∙ e))
+    (record { i_lt_n = (omega arith, omega arith, omega arith); by_index = λ t e. c.requires.unsettled.within i t c.loop-i-test.true (ap (λ (s : Segment). s.link) (sym same) ∙ e) })
 
 pub loop-i-preserved : goal.loop-i-preserved
-loop-i-preserved c = settle_more c.args.n c.args.table.now c.loop-i.table c.release.new.table c.loop-i.i c.requires.0 c.loop-i-test.true (omega arith) c.loop-i.invariant c.release.ensures
+loop-i-preserved c = settle_more c.args.n c.args.table.now c.loop-i.table c.release.new.table c.loop-i.i c.requires.unsettled c.loop-i-test.true (omega arith) c.loop-i.invariant c.release.ensures
 
 pub returns : goal.returns
 returns c =

@@ -1,6 +1,6 @@
 use Rattle.sheet.proofs.Tiled.{told-tiles}
 use Rattle.sheet.proofs.drawings.Drawing.orientation.Goals as goal
 
-pub compute-orientation-requires : goal.compute-orientation-requires
-compute-orientation-requires c =
+pub compute_orientation-requires : goal.compute_orientation-requires
+compute_orientation-requires c =
     (told-tiles _ _ _ _ c.args.self.now.tiled c.points.ensures.len c.contours.ensures.value, c.points.ensures.few)

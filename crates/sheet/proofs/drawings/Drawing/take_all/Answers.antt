@@ -7,16 +7,16 @@ use Rattle.sheet.specs.Placing.{drawn_from}
 use Rattle.sheet.proofs.Placed.{drawn-more, drawn_stops}
 use Rattle.sheet.proofs.drawings.Drawing.take_all.Goals as goal
 
-pub returns-in-err-take-entry : goal.returns-in-err-take-entry
-returns-in-err-take-entry g c =
-    let p = err_from_is_err_and c.from-residual.result c.from-residual.ensures.1 in
+pub returns-in_err-take_entry : goal.returns-in_err-take_entry
+returns-in_err-take_entry g c =
+    let p = err_from_is_err_and c.from_residual.result c.from_residual.ensures.1 in
     let here : c.loop-i.i < length (g.S.Source.list c.args.source.now) = omega (arith, c.loop-i-test.true, c.count-i-end.ensures) in
-    rw (p.1, p.2) (drawn_stops _ c.loop-i.i _ (book c.loop-i.self) here _ c.in-err-take-entry.ensures.book ∙ c.loop-i.invariant.2)
+    rw (p.1, p.2) (drawn_stops _ c.loop-i.i _ (book c.loop-i.self) here _ c.in_err-take_entry.ensures.book ∙ c.loop-i.invariant.2)
 
 pub loop-i-preserved : goal.loop-i-preserved
 loop-i-preserved g c =
     let here : c.loop-i.i < length (g.S.Source.list c.args.source.now) = omega (arith, c.loop-i-test.true, c.count-i-end.ensures) in
-    let e = c.in-ok-take-entry.ensures in
+    let e = c.in_ok-take_entry.ensures in
     (c.loop-i.invariant.0, omega (arith, e.len refl, c.loop-i.invariant.1), drawn-more _ c.loop-i.i _ (book c.loop-i.self) here _ e.book ∙ c.loop-i.invariant.2)
 
 pub returns : goal.returns

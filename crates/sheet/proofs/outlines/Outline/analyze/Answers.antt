@@ -11,5 +11,5 @@ pub returns : goal.returns
 returns g c = record {
   settings = refl;
   drawn = refl;
-  records = whole _ _ _ _ (omega (arith, c.analyze.auto.out, c.deref-mut-3.ensures.len)) c.analyze.ensures;
+  records = whole _ _ _ _ (omega (arith, c.analyze.auto.out, c.deref_mut-3.ensures.len)) c.analyze.ensures;
 }

@@ -6,5 +6,5 @@ pub returns : goal.returns
 returns c = record {
   short = search rules;
   built = search rules;
-  alone = λ flat a _. built-alone flat c.args.dim c.args.self.now c.args.table.now c.build-into.new.table c.build-into.result c.build-into.ensures a;
+  alone = λ flat a _. built-alone flat c.args.dim c.args.self.now c.args.table.now c.build_into.new.table c.build_into.result c.build_into.ensures a;
 }

@@ -5,18 +5,18 @@ use Rattle.card.specs.Lines.{link_words}
 use Rattle.card.proofs.Spaced.{after, spaced-after}
 use Rattle.card.proofs.rows.put_links.Goals as goal
 
-pub put-number-requires : goal.put-number-requires
-put-number-requires c = omega (arith, length-decimal-le 10 c.from.result (omega arith) (omega arith) (omega arith))
+pub put_number-requires : goal.put_number-requires
+put_number-requires c = omega (arith, length-decimal-le 10 c.from.result (omega arith) (omega arith) (omega arith))
 
-pub put-index-requires : goal.put-index-requires
-put-index-requires c = omega (arith, length-decimal-le 10 c.from.result (omega arith) (omega arith) (omega arith))
+pub put_index-requires : goal.put_index-requires
+put_index-requires c = omega (arith, length-decimal-le 10 c.from.result (omega arith) (omega arith) (omega arith))
 
-pub put-index-requires-2 : goal.put-index-requires-2
-put-index-requires-2 c = omega (arith, length-decimal-le 10 c.from.result (omega arith) (omega arith) (omega arith))
+pub put_index-requires-2 : goal.put_index-requires-2
+put_index-requires-2 c = omega (arith, length-decimal-le 10 c.from.result (omega arith) (omega arith) (omega arith))
 
 pub returns : goal.returns
 returns c =
     let t = text c.args.line.now in
     let ws = link_words c.args.segment.now in
-    let e : text c.put-index-2.new.line ≡ after t ws = cc in
+    let e : text c.put_index-2.new.line ≡ after t ws = cc in
     record { bytes = e ∙ spaced-after t ws; bound = omega (arith, length-decimal-le 10 c.from.result (omega arith) (omega arith) (omega arith)) }

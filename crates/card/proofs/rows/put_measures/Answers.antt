@@ -6,8 +6,8 @@ use Rattle.card.specs.Lines.{measure_words}
 use Rattle.card.proofs.Spaced.{after, spaced-after}
 use Rattle.card.proofs.rows.put_measures.Goals as goal
 
-pub put-number-requires : goal.put-number-requires
-put-number-requires c = omega (arith, length-decimal-le 5 c.from.result (omega arith) (omega arith) (omega arith))
+pub put_number-requires : goal.put_number-requires
+put_number-requires c = omega (arith, length-decimal-le 5 c.from.result (omega arith) (omega arith) (omega arith))
 
 pub returns : goal.returns
 returns c =
@@ -20,5 +20,5 @@ returns c =
     let e₂ = to_z-of_z w16 s.delta f₂ in
     let e₃ = to_z-of_z w16 s.min_coord.0 f₃ in
     let e₄ = to_z-of_z w16 s.max_coord.0 f₄ in
-    let e : text c.put-number.new.line ≡ after (text c.args.line.now) (measure_words s) = cc in
+    let e : text c.put_number.new.line ≡ after (text c.args.line.now) (measure_words s) = cc in
     record { bytes = e ∙ spaced-after (text c.args.line.now) (measure_words s); bound = omega (arith, length-decimal-le 5 c.from.result (omega arith) (omega arith) (omega arith)) }

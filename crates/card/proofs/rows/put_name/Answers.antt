@@ -8,5 +8,5 @@ pub returns : goal.returns
 returns c =
     let t = text c.args.line.now ++ axis_word c.args.dim in
     let ws = decimal c.args.index ∷ direction_word c.args.segment.now.dir ∷ [] in
-    let e : text c.put-word.new.line ≡ after t ws = cc in
+    let e : text c.put_word.new.line ≡ after t ws = cc in
     record { bytes = e ∙ spaced-after t ws; bound = omega arith }

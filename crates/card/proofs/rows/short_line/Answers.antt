@@ -8,4 +8,4 @@ returns c =
     let d = length-decimal-le 5 c.args.index (omega arith) (omega arith) (omega arith) in
     let e = ap (λ (n : ℕ). line_of (segment_words c.args.dim n c.args.segment.now)) c.from.ensures in
     let k = ap (λ (n : ℕ). length (decimal n)) c.from.ensures in
-    record { bytes = c.segment-line.ensures.bytes ∙ e; bound = omega arith }
+    record { bytes = c.segment_line.ensures.bytes ∙ e; bound = omega arith }

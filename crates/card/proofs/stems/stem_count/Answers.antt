@@ -4,7 +4,7 @@ use Rattle.card.proofs.Halved.{halves}
 use Rattle.card.proofs.Paired.{opens-counts}
 use Rattle.card.proofs.Sums.{one, sum_none, sum_more}
 use Rattle.card.proofs.stems.stem_count.Goals as goal
-use Rattle.card.proofs.stems.stem_count.Goals.{then-opens-stem, else-opens-stem}
+use Rattle.card.proofs.stems.stem_count.Goals.{then-opens_stem, else-opens_stem}
 
 pub loop-i-init : goal.loop-i-init
 loop-i-init c = (sym (sum_none _), omega arith)
@@ -14,10 +14,10 @@ loop-i-preserved c =
     let ss = c.args.segments.now in
     let m = sum_more c.loop-i.i (λ i. count_below (length ss) (stem ss i)) in
     let o = opens-counts ss c.loop-i.i in
-    let r = ap one c.opens-stem.ensures in
-    elim c.if-opens-stem.branch [
-      | then-opens-stem w ↦ let b = ap one w.if-opens-stem.true in (omega arith, omega arith)
-      | else-opens-stem w ↦ let b = ap one w.if-opens-stem.false in (omega arith, omega arith)
+    let r = ap one c.opens_stem.ensures in
+    elim c.if-opens_stem.branch [
+      | then-opens_stem w ↦ let b = ap one w.if-opens_stem.true in (omega arith, omega arith)
+      | else-opens_stem w ↦ let b = ap one w.if-opens_stem.false in (omega arith, omega arith)
     ]
 
 pub returns : goal.returns

@@ -2,22 +2,22 @@ use Rattle.std.proofs.Common.{arith}
 use Rattle.std.proofs.lemmas.Result.{err_from_is_err_and}
 use Rattle.card.proofs.texts.card_into.Goals as goal
 
-pub returns-in-err-push-line : goal.returns-in-err-push-line
-returns-in-err-push-line c =
-    let p = err_from_is_err_and c.from-residual.result c.from-residual.ensures.1 in
-    rw p.1 (omega (arith, c.in-err-push-line.ensures.room))
+pub returns-in_err-push_line : goal.returns-in_err-push_line
+returns-in_err-push_line c =
+    let p = err_from_is_err_and c.from_residual.result c.from_residual.ensures.1 in
+    rw p.1 (omega (arith, c.in_err-push_line.ensures.room))
 
-pub returns-in-err-push-segments : goal.returns-in-err-push-segments
-returns-in-err-push-segments c =
-    let p = err_from_is_err_and c.from-residual-in-err-push-segments.result c.from-residual-in-err-push-segments.ensures.1 in
-    rw p.1 (omega (arith, c.in-ok-push-line.ensures.room, c.in-err-push-segments.ensures.room))
+pub returns-in_err-push_segments : goal.returns-in_err-push_segments
+returns-in_err-push_segments c =
+    let p = err_from_is_err_and c.from_residual-in_err-push_segments.result c.from_residual-in_err-push_segments.ensures.1 in
+    rw p.1 (omega (arith, c.in_ok-push_line.ensures.room, c.in_err-push_segments.ensures.room))
 
-pub returns-in-err-push-segments-2 : goal.returns-in-err-push-segments-2
-returns-in-err-push-segments-2 c =
-    let p = err_from_is_err_and c.from-residual-in-err-push-segments-2.result c.from-residual-in-err-push-segments-2.ensures.1 in
-    rw p.1 (omega (arith, c.in-ok-push-line.ensures.room, c.in-ok-push-segments.ensures.room, c.in-err-push-segments-2.ensures.room))
+pub returns-in_err-push_segments-2 : goal.returns-in_err-push_segments-2
+returns-in_err-push_segments-2 c =
+    let p = err_from_is_err_and c.from_residual-in_err-push_segments-2.result c.from_residual-in_err-push_segments-2.ensures.1 in
+    rw p.1 (omega (arith, c.in_ok-push_line.ensures.room, c.in_ok-push_segments.ensures.room, c.in_err-push_segments-2.ensures.room))
 
-pub returns-in-err-push-line-2 : goal.returns-in-err-push-line-2
-returns-in-err-push-line-2 c =
-    let p = err_from_is_err_and c.from-residual-in-err-push-line-2.result c.from-residual-in-err-push-line-2.ensures.1 in
-    rw p.1 (omega (arith, c.in-ok-push-line.ensures.room, c.in-ok-push-segments.ensures.room, c.in-ok-push-segments-2.ensures.room, c.in-err-push-line-2.ensures.room))
+pub returns-in_err-push_line-2 : goal.returns-in_err-push_line-2
+returns-in_err-push_line-2 c =
+    let p = err_from_is_err_and c.from_residual-in_err-push_line-2.result c.from_residual-in_err-push_line-2.ensures.1 in
+    rw p.1 (omega (arith, c.in_ok-push_line.ensures.room, c.in_ok-push_segments.ensures.room, c.in_ok-push_segments-2.ensures.room, c.in_err-push_line-2.ensures.room))

@@ -5,23 +5,23 @@ use Rattle.card.proofs.Spaced.{head_made}
 use Rattle.card.proofs.Spelt.{digits}
 use Rattle.card.proofs.texts.head_line.Goals as goal
 
-pub put-number-requires : goal.put-number-requires
-put-number-requires c = omega (arith, digits c.args.points (omega arith))
+pub put_number-requires : goal.put_number-requires
+put_number-requires c = omega (arith, digits c.args.points (omega arith))
 
-pub put-word-requires : goal.put-word-requires
-put-word-requires c = record { room = omega (arith, digits c.args.points (omega arith)); ascii = search rules }
+pub put_word-requires : goal.put_word-requires
+put_word-requires c = record { room = omega (arith, digits c.args.points (omega arith)); ascii = search rules }
 
-pub put-number-requires-2 : goal.put-number-requires-2
-put-number-requires-2 c = omega (arith, digits c.args.points (omega arith), digits c.args.contours (omega arith))
+pub put_number-requires-2 : goal.put_number-requires-2
+put_number-requires-2 c = omega (arith, digits c.args.points (omega arith), digits c.args.contours (omega arith))
 
-pub put-word-requires-2 : goal.put-word-requires-2
-put-word-requires-2 c =
+pub put_word-requires-2 : goal.put_word-requires-2
+put_word-requires-2 c =
     record { room = omega (arith, digits c.args.points (omega arith), digits c.args.contours (omega arith)); ascii = search rules }
 
-pub put-word-requires-3 : goal.put-word-requires-3
-put-word-requires-3 c = record {
+pub put_word-requires-3 : goal.put_word-requires-3
+put_word-requires-3 c = record {
   room = omega (arith, digits c.args.points (omega arith), digits c.args.contours (omega arith));
-  ascii = c.area-word.ensures.ascii;
+  ascii = c.area_word.ensures.ascii;
 }
 
 pub push-requires : goal.push-requires
@@ -30,9 +30,9 @@ push-requires c =
 
 pub returns : goal.returns
 returns c =
-    let a = ap (λ (w : List ℕ). text c.put-word-2.new.line ++ 32 ∷ w) c.area-word.ensures.value in
+    let a = ap (λ (w : List ℕ). text c.put_word-2.new.line ++ 32 ∷ w) c.area_word.ensures.value in
     head_made (codes "points") (decimal c.args.points) (codes "contours") (decimal c.args.contours) (codes "area") (area_word c.args.orientation)
     _ _ _ _ _ _ _ _
-    c.new-line.ensures.bytes c.push-str.ensures.bytes
-    c.put-number.ensures.bytes c.put-word.ensures.bytes c.put-number-2.ensures.bytes c.put-word-2.ensures.bytes (c.put-word-3.ensures.bytes ∙ a)
+    c.new-line.ensures.bytes c.push_str.ensures.bytes
+    c.put_number.ensures.bytes c.put_word.ensures.bytes c.put_number-2.ensures.bytes c.put_word-2.ensures.bytes (c.put_word-3.ensures.bytes ∙ a)
     c.push.ensures.bytes

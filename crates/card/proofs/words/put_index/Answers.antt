@@ -4,8 +4,8 @@ use Rattle.card.specs.Held.{text}
 use Rattle.card.specs.Words.{index_word}
 use Rattle.card.proofs.words.put_index.Goals as goal
 
-pub put-number-requires : goal.put-number-requires
-put-number-requires c = let l = length-decimal-le 5 c.from.result (omega arith) (omega arith) (omega arith) in omega arith
+pub put_number-requires : goal.put_number-requires
+put_number-requires c = let l = length-decimal-le 5 c.from.result (omega arith) (omega arith) (omega arith) in omega arith
 
 pub returns-in-Some : goal.returns-in-Some
 returns-in-Some c =
@@ -13,4 +13,4 @@ returns-in-Some c =
     let l = length-decimal-le 5 c.from.result (omega arith) (omega arith) (omega arith) in
     let e = ap (λ (n : ℕ). t ++ 32 ∷ decimal n) c.from.ensures in
     let o = ap (λ (x : Option ℕ). t ++ 32 ∷ index_word x) (sym c.in-Some.is) in
-    record { bytes = c.put-number.ensures.bytes ∙ (e ∙ o); bound = omega arith }
+    record { bytes = c.put_number.ensures.bytes ∙ (e ∙ o); bound = omega arith }

@@ -6,8 +6,8 @@ use Rattle.std.specs.Fmt.{signed_decimal}
 use Rattle.card.specs.Held.{text}
 use Rattle.card.proofs.words.put_measure.Goals as goal
 
-pub push-signed-requires : goal.push-signed-requires
-push-signed-requires c =
+pub push_signed-requires : goal.push_signed-requires
+push_signed-requires c =
     let l = length_signed_le 5 c.args.value (omega arith) (omega arith) in
     let s = ap (λ (z : ℤ). length (signed_decimal z)) (to_z-of_z w16 c.args.value c.ranges.value) in
     omega arith

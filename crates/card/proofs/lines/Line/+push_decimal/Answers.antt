@@ -7,8 +7,8 @@ use Rattle.card.proofs.Spelt.{length_step, length_digit}
 use Rattle.card.proofs.lines.Line.+push_decimal.Goals as goal
 use Rattle.card.proofs.lines.Line.+push_decimal.Goals.{then-n-ge10, else-n-ge10}
 
-pub push-decimal-requires : goal.push-decimal-requires
-push-decimal-requires t c = search (rules, length_step)
+pub push_decimal-requires : goal.push_decimal-requires
+push_decimal-requires t c = search (rules, length_step)
 
 pub push-requires : goal.push-requires
 push-requires t c =

@@ -7,4 +7,4 @@ pub unreachable-requires : goal.unreachable-requires
 unreachable-requires c =
     let l = c.args.self.now in
     let u = IsUtf8-from_ascii (text l) (IsAscii-take l.bytes l.len l.ascii) in
-    c.in-Err.ensures.cases.0 (subst IsUtf8 (sym c.as-bytes.ensures.value) u)
+    c.in-Err.ensures.cases.0 (subst IsUtf8 (sym c.as_bytes.ensures.value) u)

@@ -3,5 +3,5 @@ use Rattle.std.proofs.ByRecursion.{IsAscii-from_all}
 use Rattle.card.proofs.Spelt.{all_same}
 use Rattle.card.proofs.lines.Line.new.Goals as goal
 
-pub invariant-of-result : goal.invariant-of-result
-invariant-of-result c = (search rules, (IsAscii-from_all (replicate 96 0) (all_same 96 0 (lit< tt)), tt))
+pub invariant_of-result : goal.invariant_of-result
+invariant_of-result c = record { within = search rules; ascii = IsAscii-from_all (replicate 96 0) (all_same 96 0 (lit< tt)) }

@@ -8,8 +8,8 @@ use Rattle.card.proofs.lines.Line.push_signed.Goals as goal
 use Rattle.card.proofs.lines.Line.push_signed.Goals.{then-z-lt0, else-z-lt0}
 
 -- what is left of `z.unsigned_abs()`
-same-abs : (c : goal.After-push-decimal) → c.from.result ≡ nat_abs c.args.z
-same-abs c = c.from.ensures ∙ (c.unsigned-abs.ensures.value ∙ ap nat_abs (to_z-of_z w16 c.args.z c.ranges.z))
+same-abs : (c : goal.After-push_decimal) → c.from.result ≡ nat_abs c.args.z
+same-abs c = c.from.ensures ∙ (c.unsigned_abs.ensures.value ∙ ap nat_abs (to_z-of_z w16 c.args.z c.ranges.z))
 
 pub returns : goal.returns
 returns c =

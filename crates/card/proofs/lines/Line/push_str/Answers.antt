@@ -14,6 +14,6 @@ loop-byte-preserved c =
 pub returns : goal.returns
 returns c =
     let p = c.args.piece.now in
-    let e = ap length c.as-bytes-byte-items.ensures.value in
+    let e = ap length c.as_bytes-byte-items.ensures.value in
     let a = take_all c.loop-byte.byte-index p (omega arith) in
     record { bytes = cc; len = omega arith }

@@ -91,7 +91,8 @@ mod tests {
             Err(_) => return Err(Fail::new("refused")),
         }
         assert!(rt;
-            &buffer[0..58] == b"V 65535 none -32768 -1 -32767 32767 65534 r 32000 - 65535\n"
+            &buffer[0..58]
+                == b"V 65535 none -32768 -1 -32767 32767 65534 r 32000 - 65535\n".as_slice()
         );
         assert!(rt; buffer[58] == 7 && buffer[99] == 7);
         Ok(())

@@ -1,5 +1,5 @@
 -- The laws of a linked table, in the subject's words. ys is what linking the first n of xs leaves.
-use Rattle.std.specs.Prelude.{◌≡◌, ℕ, ◌<◌, ◌≤◌, ◌⊎◌, List, length, ℤ, pos, ◌-ℤ◌, ◌≤ℤ◌, ◌<ℤ◌, Some, None}
+use Rattle.std.specs.Prelude.{◌≡◌, ℕ, ◌<◌, ◌≤◌, ◌⊎◌, List, length, pos, ◌-ℤ◌, ◌≤ℤ◌, ◌<ℤ◌, Some, None}
 use Rattle.std.specs.Int.{int_min, int_max}
 use Rattle.outline.specs.Directions.{Opposite}
 use Rattle.segments.specs.declared.tables.Segment.{Segment}

@@ -1,21 +1,15 @@
 -- A reading's answer is what the rules give the outline's contours.
-use Rattle.std.proofs.Common.{◌≡◌, ℕ, ◌-◌, Bool, true, false, cond, List, ◌++◌, length, take, drop, ℤ, Ok, Err, Result, sym, refl, ap, ◌∙◌}
+use Rattle.std.proofs.Common.{◌≡◌, ℕ, List, ◌++◌, length, take, drop, Ok, Err, ap, ◌∙◌}
 use lib.Seq.{take-append_seam}
-use Rattle.analysis.specs.Areas.{orientation_of, total_area}
 use Rattle.unscaled.specs.Records.{Values, header, entries}
 use Rattle.segments.specs.declared.faults.BuildFault.TheVariants.{TooManySegments}
 use Rattle.segments.specs.declared.measures.Dimension.{Dimension}
 use Rattle.segments.specs.declared.tables.Segment.{Segment}
-use Rattle.segments.specs.Majors.{major}
-use Rattle.segments.specs.Readings.{blanks}
-use Rattle.linking.specs.Links.{linked_table}
-use Rattle.linking.specs.Rules.{rule_of}
 use Rattle.sheet.specs.declared.outlines.Outline.{Outline}
 use Rattle.sheet.specs.declared.outlines.reading.ReadFault.{ReadFault}
 use Rattle.sheet.specs.declared.outlines.reading.ReadFault.TheVariants.{TableTooShort, Build}
-use Rattle.sheet.specs.Alone.{drawn_segments, crowded, LinkedAlone}
+use Rattle.sheet.specs.Alone.{LinkedAlone}
 use Rattle.sheet.specs.Placing.{Contours, placed}
-use Rattle.record_card.specs.declared.refusals.Refusal.{Refusal}
 use Rattle.record_card.specs.declared.refusals.Refusal.TheVariants.{Read}
 use Rattle.record_card.specs.Agreements.{OutlineOf}
 use Rattle.record_card.specs.Printed.{flat_of, axis, contours_card, of_edit, record_card}

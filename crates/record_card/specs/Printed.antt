@@ -1,5 +1,5 @@
 -- What is printed of a record: from its bytes, by the rules of every layer, to the text.
-use Rattle.std.specs.Prelude.{ℕ, ◌-◌, Bool, cond, List, [], ◌∷◌, ◌++◌, length, take, drop, ℤ, Ok, Err, Result}
+use Rattle.std.specs.Prelude.{ℕ, ◌-◌, Bool, cond, List, ◌++◌, length, take, drop, ℤ, Ok, Err, Result}
 use Rattle.outline.specs.Corners.{flat_by, taxicab, octagonal}
 use Rattle.unscaled.specs.declared.headers.CornerCode.{CornerCode}
 use Rattle.unscaled.specs.declared.headers.CornerCode.TheVariants.{Jit, Aot}

@@ -9,7 +9,7 @@ use Rattle.segments.specs.declared.faults.BuildFault.{BuildFault}
 use Rattle.segments.specs.declared.faults.BuildFault.TheVariants.{TooManySegments}
 use Rattle.segments.specs.declared.measures.AxisPoint.{AxisPoint}
 use Rattle.segments.specs.declared.tables.Segment.{Segment}
-use Rattle.segments.specs.Segments.{segment_of, blank}
+use Rattle.segments.specs.Segments.{segment_of}
 use Rattle.segments.specs.Building.{Built, Answer, put, segs_of, walked, visits_of, lone_built, built_of}
 use Rattle.segments.specs.Measures.{seen}
 use Rattle.segments.specs.Readings.{points_of, entries_of, room_of, all_entries, overflows, Inside, Fills, Filled, used_by, Granted, Read, blanks}

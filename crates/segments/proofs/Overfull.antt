@@ -14,7 +14,7 @@ use Rattle.segments.specs.Measures.{seen}
 use Rattle.segments.specs.Readings.{points_of, entries_of, room_of, all_entries, overflows, Read}
 use Rattle.segments.specs.Refusals.{Opens, OpensIn, Overfull, Justly}
 use Rattle.segments.specs.Segments.{segment_of}
-use Rattle.segments.specs.Stretches.{Taken, more, Stretch, summary, Went, went, Course, touches, plain, earlier, newest, coursed, setting_out, course, course_of, stretches_of, segments_of, most_of, shifted}
+use Rattle.segments.specs.Stretches.{Taken, Stretch, summary, went, Course, touches, plain, earlier, newest, coursed, setting_out, course, course_of, stretches_of, segments_of, most_of, shifted}
 use Rattle.segments.proofs.Bridge.{through, SP, walk_of, move_of, moved_is}
 use Rattle.segments.proofs.Follow.{folded_append, room_grows, room_holds}
 use Rattle.segments.proofs.Rooms.{one, one_le, Sound, moved_sound}

@@ -1,5 +1,5 @@
 -- The laws of a reading, in words.
-use Rattle.std.specs.Prelude.{◌≡◌, ℕ, ◌<◌, ◌≤◌, List, [], ◌∷◌, ◌++◌, map, length, take, drop, ℤ, pos, ◌-ℤ◌, ◌≤ℤ◌, None, Ok, Err, Result}
+use Rattle.std.specs.Prelude.{◌≡◌, ℕ, ◌<◌, ◌≤◌, List, [], ◌∷◌, ◌++◌, map, length, take, drop, pos, ◌-ℤ◌, ◌≤ℤ◌, None, Ok, Err, Result}
 use Rattle.std.specs.List.{AllZip, ContainsAt as Has, AllByRecursion as All}
 use Rattle.outline.specs.declared.contours.Contour.{Contour}
 use Rattle.outline.specs.declared.points.Point.{Point}

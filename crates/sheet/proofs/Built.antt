@@ -1,5 +1,5 @@
 -- What building leaves, by the contours alone.
-use Rattle.std.proofs.Common.{◌≡◌, ℕ, ◌-◌, Bool, List, ◌++◌, length, ℤ, Ok, Err, vec_items, vec_len, Result, sym, refl, ap, ◌∙◌}
+use Rattle.std.proofs.Common.{ℕ, ◌-◌, Bool, List, ◌++◌, length, ℤ, Ok, Err, vec_items, vec_len, Result, sym, refl, ap, ◌∙◌}
 use Rattle.analysis.specs.Outlines.{Tiles}
 use Rattle.segments.specs.declared.faults.BuildFault.TheVariants.{TooManySegments}
 use Rattle.segments.specs.declared.measures.Dimension.{Dimension}

@@ -1,5 +1,5 @@
 -- Placing a source's points, one after another.
-use Rattle.std.proofs.Common.{◌≡◌, ℕ, zero, suc, ◌+◌, ◌<◌, ◌≤◌, Bool, true, false, cond, ◌||◌, eqb, ltb, leb, List, [], ◌∷◌, ◌++◌, length, get_or, drop, Ok, Err, Result, sym, refl, ap, ◌∙◌, zero-add, arith}
+use Rattle.std.proofs.Common.{◌≡◌, ℕ, ◌+◌, ◌<◌, Bool, true, false, ◌||◌, eqb, ltb, leb, List, [], ◌∷◌, ◌++◌, length, get_or, drop, Ok, Err, arith}
 use lib.ListN.{length-map}
 use Rattle.std.proofs.lemmas.Bool.Decides.{nat_tests}
 use Rattle.std.proofs.lemmas.List.{drop_more}
@@ -8,8 +8,8 @@ use Rattle.outline.specs.declared.points.DrawnPoint.{DrawnPoint}
 use Rattle.unscaled.specs.Entries.{Entry}
 use Rattle.sheet.specs.declared.faults.EditFault.{EditFault}
 use Rattle.sheet.specs.declared.faults.EditFault.TheVariants.{TooManyContours}
-use Rattle.analysis.specs.Outlines.{cut_out, points_of}
-use Rattle.sheet.specs.Placing.{Contours, follow, extended, entered, lengthened, drawn_from, with_contours}
+use Rattle.analysis.specs.Outlines.{cut_out}
+use Rattle.sheet.specs.Placing.{Contours, extended, entered, lengthened, drawn_from}
 
 -- the three ways of one point more, by what the code tests
 module _ (cs : List Contour) (ps : List DrawnPoint) (q : DrawnPoint) (opens first : Bool) (held : ℕ)

@@ -1,5 +1,5 @@
 -- A contour's segments among those of an outline are those that it has alone.
-use Rattle.std.proofs.Common.{◌≡◌, ℕ, ◌+◌, ◌-◌, ◌<◌, ◌≤◌, Bool, true, false, ◌||◌, ltb, List, [], ◌∷◌, ◌++◌, map, length, take, drop, ℤ, sym, refl, ap, ◌∙◌, append_assoc, arith, length-append}
+use Rattle.std.proofs.Common.{◌≡◌, ℕ, ◌+◌, ◌-◌, Bool, ◌||◌, ltb, List, [], ◌∷◌, ◌++◌, map, length, take, drop, ℤ, sym, refl, ap, ◌∙◌, append_assoc, arith, length-append}
 use lib.ListN.{length-map}
 use lib.Seq.{take-append_seam, drop-append_seam}
 use Rattle.std.specs.List.{AllZip}

@@ -7,7 +7,7 @@ use Rattle.outline.specs.Directions.{direction}
 use Rattle.walk.specs.declared.steps.Step.{Step}
 use Rattle.walk.specs.declared.legs.Leg.{Leg}
 use Rattle.walk.specs.Steps.{origin, following, step_of, vector, leaving, steps_from, no_step, plus, taxicab}
-use Rattle.walk.specs.Legs.{no_leg, leg_of, rest_of, cuts, first_dir, in_sum, spread}
+use Rattle.walk.specs.Legs.{no_leg, leg_of, rest_of, cuts, first_dir, spread}
 use Rattle.walk.specs.Marks.{last_end}
 use Rattle.walk.specs.Ends.{ends_from, direction_to, added, arrived, SumsAreVectors}
 use Rattle.walk.proofs.Spreads.{spread-cons}

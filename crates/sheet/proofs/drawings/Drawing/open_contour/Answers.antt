@@ -1,4 +1,4 @@
-use Rattle.std.proofs.Common.{arith, rules}
+use Rattle.std.proofs.Common.{rules}
 use Rattle.sheet.proofs.Tiled.{opened-tiles, opened-book}
 use Rattle.sheet.proofs.drawings.Drawing.open_contour.Goals as goal
 

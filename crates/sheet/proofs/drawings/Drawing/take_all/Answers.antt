@@ -1,7 +1,6 @@
 use Rattle.std.proofs.Common.{◌<◌, length, sym, refl, ◌∙◌, arith}
 use Rattle.std.proofs.lemmas.Result.{err_from_is_err_and}
 use Rattle.std.proofs.lemmas.List.{at_drop_all}
-use Rattle.unscaled.specs.Entries.{past_count}
 use Rattle.sheet.specs.Books.{book}
 use Rattle.sheet.specs.Placing.{drawn_from}
 use Rattle.sheet.proofs.Placed.{drawn-more, drawn_stops}

@@ -1,4 +1,4 @@
-use Rattle.std.proofs.Common.{◌≡◌, ℕ, List, ◌++◌, length, take, sym, refl, ap, ◌∙◌, arith}
+use Rattle.std.proofs.Common.{◌≡◌, ℕ, List, ◌++◌, length, take, refl, ◌∙◌, arith}
 use lib.Seq.{take-append_seam}
 use Rattle.outline.specs.declared.points.Point.{Point}
 use Rattle.sheet.proofs.outlines.Outline.analyze.Goals as goal

@@ -1,6 +1,6 @@
 -- u and v are points of the contour: after the walk, and after each step of a pass.
 use Rattle.std.proofs.Common.{◌≡◌, ℕ, zero, suc, ◌+◌, ◌<◌, Bool, true, not, List, [], ◌∷◌, length, get_or, replicate, ℤ, ◌∙◌, arith}
-use Rattle.std.specs.List.{AllByRecursion as All}
+use Rattle.std.specs.List.{AllByRecursion}
 use Rattle.std.proofs.ByRecursion.{All-get_or, All-set}
 use Rattle.std.proofs.lemmas.List.{length-replicate}
 use Rattle.std.proofs.lemmas.Bool.{cond_both, ltb-true}
@@ -19,10 +19,10 @@ use Rattle.analysis.specs.Passes.{Linked, is_straight, weaken, bypass, simplifie
 -- marks of n points, each linked within the contour
 pub record Good (n : ℕ) (ms : List Mark) : Type 0 where
   pub long : length ms ≡ n
-  pub all : All (Linked n) ms
+  pub all : AllByRecursion (Linked n) ms
 
 -- the mark of a point
-pub linked-one : (n i : ℕ) (ms : List Mark) → length ms ≡ n → i < n → All (Linked n) ms → Linked n (get_or ms i blank)
+pub linked-one : (n i : ℕ) (ms : List Mark) → length ms ≡ n → i < n → AllByRecursion (Linked n) ms → Linked n (get_or ms i blank)
 linked-one n i ms e in' a = All-get_or (Linked n) ms i blank (omega arith) a
 
 good_at : (n i : ℕ) (f : Mark → Mark) (ms : List Mark) → ((m : Mark) → Linked n m → Linked n (f m)) → i < n → Good n ms → Good n (at i f ms)
@@ -86,12 +86,12 @@ good_all n s e i (l ∷ ls) ms in_s in_e in-i g =
     good_all n s (last_end e (following n i) l) (following n i) ls (dealt e i (following n i) l ms)
     in_s (last_in n e (following n i) l in_e in-j) in-j (good_dealt n e i (following n i) l ms in_e in-i in-j g)
 
-blanks : (n m : ℕ) → 0 < n → All (Linked n) (replicate m blank)
+blanks : (n m : ℕ) → 0 < n → AllByRecursion (Linked n) (replicate m blank)
 blanks n zero h = tt
 blanks n (suc m) h = ((h, h), blanks n m h)
 
 pub walked-linked : (N : ℕ) (ps : List DrawnPoint) (ms xs : List Mark) → 0 < length ps
-    → ms ≡ replicate (length ps) blank → xs ≡ walked N ps ms → All (Linked (length ps)) xs
+    → ms ≡ replicate (length ps) blank → xs ≡ walked N ps ms → AllByRecursion (Linked (length ps)) xs
 unfolding walked
 walked-linked N ps ms xs some e w =
     let s = start_in N ps some in

@@ -1,6 +1,6 @@
 // The first pass: points that lie on the way between their neighbours turn weak.
 ghost use Rattle.std.specs.Prelude.{◌≡◌, ◌<◌, length};
-ghost use Rattle.std.specs.List.{AllByRecursion as All};
+ghost use Rattle.std.specs.List.{AllByRecursion};
 ghost use Rattle.analysis.specs.Passes.{Linked, same_sign, same_quadrant, is_open, is_straight, simplified_at, simplified};
 
 use crate::bends::{bypass_point, is_undirected, vectors};
@@ -40,7 +40,7 @@ fn is_straight(points: &[DrawnPoint], i: usize, mark: Mark) -> bool
 }
 
 fn simplify_at(points: &[DrawnPoint], i: usize, marks: &mut [Mark])
-    requires { (i < length points.now) × ((length marks.old ≡ length points.now) × (All (Linked (length points.now)) marks.old)) }
+    requires { (i < length points.now) × ((length marks.old ≡ length points.now) × (AllByRecursion (Linked (length points.now)) marks.old)) }
     ensures { marks.new ≡ simplified_at points.now i marks.old }
 {
     let mark = marks[i];
@@ -50,9 +50,9 @@ fn simplify_at(points: &[DrawnPoint], i: usize, marks: &mut [Mark])
 }
 
 pub fn simplify_topology(points: &[DrawnPoint], marks: &mut [Mark])
-    requires { (length marks.old ≡ length points.now) × (All (Linked (length points.now)) marks.old) }
+    requires { (length marks.old ≡ length points.now) × (AllByRecursion (Linked (length points.now)) marks.old) }
     ensures after { marks.new ≡ simplified points.now marks.old }
-    ensures linked { All (Linked (length points.now)) marks.new }
+    ensures linked { AllByRecursion (Linked (length points.now)) marks.new }
 {
     for i in 0..points.len() {
         simplify_at(points, i, marks);

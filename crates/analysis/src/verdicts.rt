@@ -1,6 +1,6 @@
 // The second pass: control points, points inside a line, spikes and flat corners turn weak.
 ghost use Rattle.std.specs.Prelude.{◌≡◌, ◌<◌, length};
-ghost use Rattle.std.specs.List.{AllByRecursion as All};
+ghost use Rattle.std.specs.List.{AllByRecursion};
 ghost use Rattle.analysis.specs.Passes.{Linked, on_curve, judged_directed, judged_corner, judged, applied, checked_at, checked};
 
 use crate::bends::{bypass_point, is_undirected, vectors};
@@ -72,7 +72,7 @@ fn apply_verdict(verdict: Verdict, i: usize, mark: Mark, marks: &mut [Mark])
 }
 
 fn check_at<R: CornerRule>(rule: &R, points: &[DrawnPoint], i: usize, marks: &mut [Mark])
-    requires { (i < length points.now) × ((length marks.old ≡ length points.now) × (All (Linked (length points.now)) marks.old)) }
+    requires { (i < length points.now) × ((length marks.old ≡ length points.now) × (AllByRecursion (Linked (length points.now)) marks.old)) }
     ensures { marks.new ≡ checked_at (R.flat rule.now) points.now i marks.old }
 {
     let mark = marks[i];
@@ -85,7 +85,7 @@ pub fn check_remaining_weak_points<R: CornerRule>(
     points: &[DrawnPoint],
     marks: &mut [Mark],
 )
-    requires { (length marks.old ≡ length points.now) × (All (Linked (length points.now)) marks.old) }
+    requires { (length marks.old ≡ length points.now) × (AllByRecursion (Linked (length points.now)) marks.old) }
     ensures { marks.new ≡ checked (R.flat rule.now) points.now marks.old }
 {
     for i in 0..points.len() {

@@ -3,7 +3,7 @@ use Rattle.std.proofs.Common.{◌≡◌, ℕ, zero, suc, ◌+◌, ◌/◌, ◌^�
 use Rattle.std.proofs.lemmas.Int.{ints}
 use Rattle.std.proofs.lemmas.List.{length_push}
 use Rattle.std.proofs.lemmas.Fmt.{decimal_step, decimal_digit, length-decimal-le}
-use Rattle.std.specs.List.{AllByRecursion as All}
+use Rattle.std.specs.List.{AllByRecursion}
 use Rattle.std.specs.Fmt.{signed_decimal}
 
 pub length_step : (n : ℕ) → 10 ≤ n → n < 2 ^ 64 → length (decimal n) ≡ length (decimal (n / 10)) + 1
@@ -21,7 +21,7 @@ signed_from (pos n) h = refl
 signed_from (negsuc n) h = absurd (omega (arith, ints))
 
 -- a byte over and over
-pub all_same : (n b : ℕ) → b < 128 → All (λ x. x < 128) (replicate n b)
+pub all_same : (n b : ℕ) → b < 128 → AllByRecursion (λ x. x < 128) (replicate n b)
 all_same zero b h = tt
 all_same (suc n) b h = (h, all_same n b h)
 

@@ -1,7 +1,7 @@
 // What each segment chooses, found in place.
 ghost use Rattle.std.specs.Prelude.{◌≡◌, ◌+◌, ◌<◌, ◌≤◌, length, Some, None, slice_set};
-ghost use Rattle.linking.specs.Choices.{at as entry_at, ranks_before, holding as spec-holding};
-ghost use Rattle.linking.specs.Passes.{offered, exchanged, entry as choice-entry, stage, Shows};
+ghost use Rattle.linking.specs.Choices.{at as entry_at, ranks_before, holding as spec_holding};
+ghost use Rattle.linking.specs.Passes.{offered, exchanged, entry as choice_entry, stage, Shows};
 
 use crate::partners::has_direction;
 use crate::rules::{MAX_SCORE, Rule};
@@ -9,7 +9,7 @@ use segments::Segment;
 
 // The segment with another score, link and serif.
 pub fn holding(segment: Segment, score: u32, link: Option<u16>, serif: Option<u16>) -> Segment
-    ensures { result ≡ spec-holding segment score link serif }
+    ensures { result ≡ spec_holding segment score link serif }
 {
     Segment {
         score,
@@ -51,7 +51,7 @@ fn meet(table: &mut [Segment], i: usize, j: usize, score: Option<u32>)
 // Old scores, links and serifs go.
 fn erase(table: &mut [Segment], n: usize)
     requires { n ≤ length table.old }
-    ensures { Shows table.old n (λ k. spec-holding (entry_at table.old k) 32000 None None) table.new }
+    ensures { Shows table.old n (λ k. spec_holding (entry_at table.old k) 32000 None None) table.new }
 {
     for i in 0..n {
         table[i] = holding(table[i], MAX_SCORE, None, None);
@@ -77,7 +77,7 @@ fn pass(table: &mut [Segment], n: usize, i: usize, rule: &Rule)
 // Every pass, after which each of the first n has its choice as its link, and its score.
 pub fn choose(table: &mut [Segment], n: usize, rule: &Rule)
     requires { (n ≤ length table.old) × (n ≤ 1001) × (0 < rule.now.threshold) }
-    ensures { Shows table.old n (choice-entry rule.now (entry_at table.old) n) table.new }
+    ensures { Shows table.old n (choice_entry rule.now (entry_at table.old) n) table.new }
 {
     erase(table, n);
     for i in 0..n {

@@ -2,7 +2,7 @@
 ghost use Rattle.std.specs.Prelude.{◌≡◌, ◌<◌, ◌≤◌, int_lt};
 ghost use Rattle.std.specs.Int.{int_min, int_max};
 ghost use Rattle.outline.specs.Directions.{same, opposite};
-ghost use Rattle.linking.specs.Rules.{reverse, away, overlap as spec-overlap, demerit as spec-demerit, faces as spec-faces, pair_score};
+ghost use Rattle.linking.specs.Rules.{reverse, away, overlap as spec_overlap, demerit as spec_demerit, faces as spec_faces, pair_score};
 
 use crate::rules::{MAX_SCORE, Rule};
 use outline::Direction;
@@ -79,7 +79,7 @@ fn upper(a: Coordinate, b: Coordinate) -> Coordinate
 }
 
 fn overlap(a: &Segment, b: &Segment) -> u32
-    ensures { result ≡ spec-overlap a.now b.now }
+    ensures { result ≡ spec_overlap a.now b.now }
 {
     let least = upper(a.min_coord, b.min_coord);
     let greatest = lower(a.max_coord, b.max_coord);
@@ -89,7 +89,7 @@ fn overlap(a: &Segment, b: &Segment) -> u32
 // What a distance costs: nothing up to the standard width, and then the square of what is beyond it.
 fn demerit(width: u16, distance: u32) -> u32
     requires { distance ≤ 65535 }
-    ensures value { result ≡ spec-demerit width distance }
+    ensures value { result ≡ spec_demerit width distance }
     ensures bound { result ≤ 65535 }
 {
     if width == 0 {
@@ -110,7 +110,7 @@ fn demerit(width: u16, distance: u32) -> u32
 impl Rule {
     // Whether a is of the major direction, and b of the opposite one at a greater position.
     fn faces(&self, a: &Segment, b: &Segment) -> bool
-        ensures { result ≡ spec-faces self.now a.now b.now }
+        ensures { result ≡ spec_faces self.now a.now b.now }
     {
         has_direction(a, self.major) && is_reverse(b.dir, self.major) && is_beyond(a.pos, b.pos)
     }

@@ -1,7 +1,7 @@
 // Links and serifs, from what each segment chose.
 ghost use Rattle.std.specs.Prelude.{◌≡◌, ℕ, ◌<◌, ◌≤◌, length, Some, None, slice_set};
 ghost use Rattle.linking.specs.Choices.{at as entry_at};
-ghost use Rattle.linking.specs.Links.{picks as spec-picks, linked_table};
+ghost use Rattle.linking.specs.Links.{picks as spec_picks, linked_table};
 ghost use Rattle.linking.specs.Passes.{Shows, released, settled, held_choice, Unsettled};
 ghost use Rattle.linking.specs.Laws.{Linking};
 
@@ -10,7 +10,7 @@ use crate::rules::Rule;
 use segments::Segment;
 
 fn picks(link: Option<u16>, k: u16) -> bool
-    ensures { result ≡ spec-picks link k }
+    ensures { result ≡ spec_picks link k }
 {
     match link {
         Some(t) => t == k,

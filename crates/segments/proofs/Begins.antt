@@ -1,6 +1,6 @@
 -- Where the walk begins, in words.
 use Rattle.std.proofs.Common.{◌≡◌, ℕ, ◌+◌, ◌≤◌, Bool, true, false, cond, ◌&&◌, List, [], ◌∷◌, length, take, drop, MatchBool, sym, refl, ap, ◌∙◌, subst, inl, inr, add-one, arith}
-use Rattle.std.specs.List.{AllByRecursion as All}
+use Rattle.std.specs.List.{AllByRecursion}
 use Rattle.std.proofs.lemmas.List.{length-take-le}
 use Rattle.std.proofs.lemmas.Bool.{and_parts, and_cases, both_ways}
 use Rattle.segments.specs.declared.measures.AxisPoint.{AxisPoint}
@@ -8,11 +8,11 @@ use Rattle.segments.specs.declared.measures.Dimension.{Dimension}
 use Rattle.segments.specs.Starts.{on, all_on, head_on, last_on, run_of, Last, StartsTold}
 
 module _ (dim : Dimension) where
-  each_on : (ps : List AxisPoint) → all_on dim ps ≡ true → All (λ p. on dim p ≡ true) ps
+  each_on : (ps : List AxisPoint) → all_on dim ps ≡ true → AllByRecursion (λ p. on dim p ≡ true) ps
   each_on [] h = tt
   each_on (p ∷ ps) h = ((and_parts (on dim p) (all_on dim ps) h).0, each_on ps (and_parts (on dim p) (all_on dim ps) h).1)
 
-  all_each : (ps : List AxisPoint) → All (λ p. on dim p ≡ true) ps → all_on dim ps ≡ true
+  all_each : (ps : List AxisPoint) → AllByRecursion (λ p. on dim p ≡ true) ps → all_on dim ps ≡ true
   all_each [] h = refl
   all_each (p ∷ ps) h = ap (λ (b : Bool). b && all_on dim ps) h.0 ∙ all_each ps h.1
 
@@ -23,13 +23,13 @@ module _ (dim : Dimension) where
   -- the run begins at place s
   record Runs (ps : List AxisPoint) (s : ℕ) : Type 0 where
     low : s ≤ length ps
-    on_from : All (λ p. on dim p ≡ true) (drop s ps)
+    on_from : AllByRecursion (λ p. on dim p ≡ true) (drop s ps)
     off_before : Last (λ p. on dim p ≡ false) (take s ps)
 
   -- a point before a run that begins at once, but is not part of it
-  first_off : (s : ℕ) (p : AxisPoint) (ps : List AxisPoint) → s ≡ 0 → all_on dim (p ∷ ps) ≡ false → All (λ q. on dim q ≡ true) (drop s ps) → on dim p ≡ false
+  first_off : (s : ℕ) (p : AxisPoint) (ps : List AxisPoint) → s ≡ 0 → all_on dim (p ∷ ps) ≡ false → AllByRecursion (λ q. on dim q ≡ true) (drop s ps) → on dim p ≡ false
   first_off s p ps z h a =
-      let rest : all_on dim ps ≡ true = all_each ps (subst (λ (i : ℕ). All (λ q. on dim q ≡ true) (drop i ps)) z a) in
+      let rest : all_on dim ps ≡ true = all_each ps (subst (λ (i : ℕ). AllByRecursion (λ q. on dim q ≡ true) (drop i ps)) z a) in
       elim (and_cases (on dim p) (all_on dim ps) h) [
         | inl off ↦ off
         | inr some ↦ absurd (both_ways (all_on dim ps) some rest)
@@ -51,7 +51,7 @@ module _ (dim : Dimension) where
   runs (p ∷ ps) = runs_by (all_on dim (p ∷ ps)) p ps refl (runs ps)
 
   begins_by : (j : Bool) (ps : List AxisPoint) → Runs ps (run_of dim ps) →
-      MatchBool j (All (λ p. on dim p ≡ true) (drop (cond j (run_of dim ps) 0) ps) × Last (λ p. on dim p ≡ false) (take (cond j (run_of dim ps) 0) ps))
+      MatchBool j (AllByRecursion (λ p. on dim p ≡ true) (drop (cond j (run_of dim ps) 0) ps) × Last (λ p. on dim p ≡ false) (take (cond j (run_of dim ps) 0) ps))
       (cond j (run_of dim ps) 0 ≡ 0)
   begins_by true ps r = (r.on_from, r.off_before)
   begins_by false ps r = refl

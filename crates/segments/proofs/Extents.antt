@@ -2,7 +2,7 @@
 use Rattle.std.proofs.Common.{◌≡◌, ℕ, ◌/◌, ◌<◌, Bool, true, false, cond, not, ◌||◌, List, [], ◌∷◌, ◌++◌, ℤ, pos, ◌-ℤ◌, nat_abs, ◌≤ℤ◌, ◌<ℤ◌, Some, None, Decides, filter, Option, sym, refl, ap, ◌∙◌, subst, append_assoc, arith}
 use lib.Signed.{lt_z}
 use Rattle.std.specs.Int.{int_min, int_max}
-use Rattle.std.specs.List.{AllByRecursion as All}
+use Rattle.std.specs.List.{AllByRecursion}
 use Rattle.std.proofs.lemmas.List.Elements.{filter-append}
 use Rattle.std.proofs.ByRecursion.{All-push, All-weaker, all-has, has_append_left, has_push}
 use Rattle.std.proofs.lemmas.List.{map_push, map-append, append-nil}
@@ -96,10 +96,10 @@ gives_stays m p ps g = record {
   kind = g.kind;
 }
 
-gives-passes : (p : AxisPoint) (ps : List AxisPoint) → All (λ q. q.coordinate.0 ≡ p.coordinate.0 → ⊥) ps → Gives (mark_of p) (ps ++ p ∷ [])
+gives-passes : (p : AxisPoint) (ps : List AxisPoint) → AllByRecursion (λ q. q.coordinate.0 ≡ p.coordinate.0 → ⊥) ps → Gives (mark_of p) (ps ++ p ∷ [])
 gives-passes p ps h = record { before = ps; giver = p; after = []; parts = refl; none = h; gives = refl; kind = refl }
 
-coordinate_all : (P : ℤ → Type 0) (ps : List AxisPoint) → All P (coordinates ps) → All (λ q. P q.coordinate.0) ps
+coordinate_all : (P : ℤ → Type 0) (ps : List AxisPoint) → AllByRecursion P (coordinates ps) → AllByRecursion (λ q. P q.coordinate.0) ps
 coordinate_all P [] h = tt
 coordinate_all P (p ∷ ps) h = (h.0, coordinate_all P ps h.1)
 
@@ -165,13 +165,13 @@ short_decides units (Some r) zs e =
     let le : r.low.0 ≤ℤ r.high.0 = ordered r.low.0 r.high.0 zs e.0 e.1 in
     let g : pos (nat_abs (r.high.0 -ℤ r.low.0)) ≡ r.high.0 -ℤ r.low.0 = gap_is r.low.0 r.high.0 le in (
       λ t. let lt : nat_abs (r.high.0 -ℤ r.low.0) < units / 14 = ltb-true (nat_abs (r.high.0 -ℤ r.low.0)) (units / 14) t in
-          All-weaker (λ y. r.low.0 ≤ℤ y) (λ y. All (λ z. (z -ℤ y) <ℤ pos (units / 14)) zs)
+          All-weaker (λ y. r.low.0 ≤ℤ y) (λ y. AllByRecursion (λ z. (z -ℤ y) <ℤ pos (units / 14)) zs)
           (λ y low. All-weaker (λ z. z ≤ℤ r.high.0) (λ z. (z -ℤ y) <ℤ pos (units / 14)) (λ z high. omega (arith, ints)) zs e.1.1)
           zs e.0.1,
       λ close. lt-ltb (nat_abs (r.high.0 -ℤ r.low.0)) (units / 14)
           (let lt : (r.high.0 -ℤ r.low.0) <ℤ pos (units / 14)
           = all-has (λ z. (z -ℤ r.low.0) <ℤ pos (units / 14)) zs r.high.0
-          (all-has (λ y. All (λ z. (z -ℤ y) <ℤ pos (units / 14)) zs) zs r.low.0 close e.0.0) e.1.0 in
+          (all-has (λ y. AllByRecursion (λ z. (z -ℤ y) <ℤ pos (units / 14)) zs) zs r.low.0 close e.0.0) e.1.0 in
           omega (arith, ints)),
     )
 

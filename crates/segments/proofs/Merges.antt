@@ -1,6 +1,6 @@
 -- Rows that touch are merged, and the tallest survives.
 use Rattle.std.proofs.Common.{◌≡◌, ◌<◌, ◌≤◌, Bool, true, false, cond, eqb, ltb, List, [], ◌∷◌, ◌++◌, Some, None, Option, sym, refl, ap, ◌∙◌, subst, append_assoc, arith}
-use Rattle.std.specs.List.{AllByRecursion as All}
+use Rattle.std.specs.List.{AllByRecursion}
 use Rattle.std.proofs.ByRecursion.{All-append, All-push, All-weaker}
 use Rattle.std.proofs.lemmas.List.{append-nil}
 use Rattle.std.proofs.lemmas.Bool.{ltb-true, ltb-false, eqb-true, eqb-false}
@@ -40,7 +40,7 @@ module _ (g : Group) (e : Stretch) (t : Taken) (m : Merged g e) (met : (last_of 
         before = rows_in g;
         after = [];
         parts = refl;
-        none_taller = subst (All (λ r. height_of r ≤ height_of t)) (sym m.parts)
+        none_taller = subst (AllByRecursion (λ r. height_of r ≤ height_of t)) (sym m.parts)
             (All-append (λ r. height_of r ≤ height_of t) m.before (e.own ∷ m.after)
             (All-weaker (λ r. height_of r ≤ height_of e.own) (λ r. height_of r ≤ height_of t) (λ r k. omega arith) m.before m.none_taller)
             (le, All-weaker (λ r. height_of r < height_of e.own) (λ r. height_of r ≤ height_of t) (λ r k. omega arith) m.after m.later_lower));

@@ -1,6 +1,6 @@
 -- The walk falls into rows.
 use Rattle.std.proofs.Common.{◌≡◌, ℕ, zero, suc, ◌+◌, ◌<◌, Bool, true, false, cond, not, ◌&&◌, List, [], ◌∷◌, ◌++◌, map, length, get_or, take, drop, Some, None, fold, filter, Option, sym, refl, ap, ◌∙◌, subst, append_assoc, arith}
-use Rattle.std.specs.List.{AllByRecursion as All}
+use Rattle.std.specs.List.{AllByRecursion}
 use Rattle.std.proofs.ByRecursion.{All-append, All-push, All-take, All-drop}
 use Rattle.std.proofs.lemmas.List.{append-nil, drop_more}
 use Rattle.std.proofs.lemmas.Bool.{both_ways, eqb-true, and_left, and_right, and_parts, not_from_true}
@@ -61,11 +61,11 @@ last_in : (P : Visit → Type 0) (vs : List Visit) (t : Taken) → P (last_of t)
 last_in P vs (lone v) h = last_push P vs v h
 last_in P vs (more t v) h = subst (Last P) (append_assoc vs (visits_in t) (v ∷ [])) (last_push P (vs ++ visits_in t) v h)
 
-all-last : (P : Visit → Type 0) (t : Taken) → All P (visits_in t) → P (last_of t)
+all-last : (P : Visit → Type 0) (t : Taken) → AllByRecursion P (visits_in t) → P (last_of t)
 all-last P (lone v) h = h.0
 all-last P (more t v) h = end (visits_in t) h
   where
-    end : (vs : List Visit) → All P (vs ++ v ∷ []) → P v
+    end : (vs : List Visit) → AllByRecursion P (vs ++ v ∷ []) → P v
     end [] k = k.0
     end (u ∷ vs) k = end vs k.1
 
@@ -96,7 +96,7 @@ module _ (dim : Dimension) (vs : List Visit) where
     before : List Visit
     along : pre ≡ before ++ visits_in t
     starts : Last (λ v. v.point.out_dir ≡ heading t → ⊥) before
-    runs : All (λ v. (goes dim v ≡ true) × (v.point.out_dir ≡ heading t)) (visits_in t)
+    runs : AllByRecursion (λ v. (goes dim v ≡ true) × (v.point.out_dir ≡ heading t)) (visits_in t)
     line : on_line dim (heading t) ≡ true
 
   -- what is known after the points pre: outside a segment the last was off the line
@@ -106,7 +106,7 @@ module _ (dim : Dimension) (vs : List Visit) where
 
   record Step (pre : List Visit) (o : Option Taken) (v : Visit) (w : Went) : Type 0 where
     comes : Came (pre ++ v ∷ []) w.inside
-    shuts : All (Row dim vs) (list_of w.closed)
+    shuts : AllByRecursion (Row dim vs) (list_of w.closed)
     holds : open_visits o ++ cond (goes dim v) (v ∷ []) [] ≡ fronts (list_of w.closed) ++ open_visits w.inside
 
   module _ (pre post : List Visit) (v : Visit) (vs-is : vs ≡ pre ++ v ∷ post) where
@@ -200,13 +200,13 @@ module _ (dim : Dimension) (vs : List Visit) where
 
     -- the point at which it ends
     record End (o : Option Taken) (w : Went) : Type 0 where
-      shuts : All (Row dim vs) (list_of w.closed)
+      shuts : AllByRecursion (Row dim vs) (list_of w.closed)
       holds : open_visits o ++ cond (goes dim v) (v ∷ []) [] ≡ fronts (list_of w.closed)
 
     not_going : v.ends ≡ true → goes dim v ≡ false
     not_going e = and_right (on dim v.point) (not v.ends) (not_from_true v.ends e)
 
-    ends_by : (j : Bool) (o : Option Taken) (closed : Option Taken) → goes dim v ≡ j → j ≡ false → All (Row dim vs) (list_of closed) →
+    ends_by : (j : Bool) (o : Option Taken) (closed : Option Taken) → goes dim v ≡ j → j ≡ false → AllByRecursion (Row dim vs) (list_of closed) →
         open_visits o ++ [] ≡ fronts (list_of closed) →
         End o (cond j (record { closed = closed; opens = true; inside = Some (lone v) }) (record { closed = closed; opens = false; inside = None }))
     ends_by true o closed g f h e = absurd (both_ways true f refl)
@@ -225,11 +225,11 @@ module _ (dim : Dimension) (vs : List Visit) where
 
   -- from here on: the points of the open row and those on the line are in the rows that close
   record Told (o : Option Taken) (us : List Visit) : Type 0 where
-    rows : All (Row dim vs) (rows_from dim o us)
+    rows : AllByRecursion (Row dim vs) (rows_from dim o us)
     holds : open_visits o ++ filter (goes dim) us ≡ fronts (rows_from dim o us)
 
   rows_told : (pre init : List Visit) (last : Visit) (o : Option Taken) → vs ≡ pre ++ (init ++ last ∷ []) →
-      All (λ v. v.ends ≡ false) init → last.ends ≡ true → Came pre o → Told o (init ++ last ∷ [])
+      AllByRecursion (λ v. v.ends ≡ false) init → last.ends ≡ true → Came pre o → Told o (init ++ last ∷ [])
   rows_told pre [] last o e a f c =
       let w : End pre [] last e o (went dim o last) = ends-row pre [] last e o f c in
       record {
@@ -274,7 +274,7 @@ module _ (dim : Dimension) where
       (places setting_out vs [] (refl, refl))
 
 -- the walk goes on until it is back where it began
-none-ends : (i : ℕ) (ps : List AxisPoint) → All (λ v. v.ends ≡ false) (numbered i ps)
+none-ends : (i : ℕ) (ps : List AxisPoint) → AllByRecursion (λ v. v.ends ≡ false) (numbered i ps)
 none-ends i [] = tt
 none-ends i (p ∷ ps) = (refl, none-ends (i + 1) ps)
 
@@ -300,7 +300,7 @@ contours_fall dim p q ps =
     let sorted = course_sorted dim (visits_of dim (p ∷ q ∷ ps)) in
     record {
       groups = sorted.groups;
-      rows = subst (All (Row dim (visits_of dim (p ∷ q ∷ ps)))) (sym sorted.rows) all.rows;
+      rows = subst (AllByRecursion (Row dim (visits_of dim (p ∷ q ∷ ps)))) (sym sorted.rows) all.rows;
       covers = ap fronts sorted.rows ∙ sym all.holds;
       merged = sorted.merged;
       apart = sorted.apart;

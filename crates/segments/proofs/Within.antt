@@ -1,6 +1,6 @@
 -- Each segment lies within one contour.
 use Rattle.std.proofs.Common.{◌≡◌, ℕ, ◌+◌, ◌-◌, ◌<◌, ◌≤◌, List, [], ◌∷◌, ◌++◌, map, length, take, drop, Ok, Err, Result, sym, refl, ap, ◌∙◌, subst, arith}
-use Rattle.std.specs.List.{ContainsAt as Has, AllByRecursion as All}
+use Rattle.std.specs.List.{ContainsAt, AllByRecursion}
 use Rattle.std.proofs.ByRecursion.{All-append, All-drop, All-take, All-map, All-weaker, has_append_right}
 use Rattle.std.proofs.lemmas.List.{length-map, length-drop, length-take-le, take_at}
 use Rattle.outline.specs.declared.contours.Contour.{Contour}
@@ -21,11 +21,11 @@ use Rattle.segments.proofs.Bridge.{last-both}
 use Rattle.segments.proofs.Extents.{segments-told, ordered-told}
 use Rattle.segments.proofs.Walked.{contours_fall}
 
-all_left : {X : Type 0} (P : X → Type 0) (xs ys : List X) → All P (xs ++ ys) → All P xs
+all_left : {X : Type 0} (P : X → Type 0) (xs ys : List X) → AllByRecursion P (xs ++ ys) → AllByRecursion P xs
 all_left P [] ys h = tt
 all_left P (x ∷ xs) ys h = (h.0, all_left P xs ys h.1)
 
-all_right : {X : Type 0} (P : X → Type 0) (xs ys : List X) → All P (xs ++ ys) → All P ys
+all_right : {X : Type 0} (P : X → Type 0) (xs ys : List X) → AllByRecursion P (xs ++ ys) → AllByRecursion P ys
 all_right P [] ys h = h
 all_right P (x ∷ xs) ys h = all_right P xs ys h.1
 
@@ -37,40 +37,40 @@ module _ (n : ℕ) where
     first : (first_of s.own).at < n
     last : (last_of s.all).at < n
 
-  numbered_in : (i : ℕ) (ps : List AxisPoint) → i + length ps ≤ n → All In (numbered i ps)
+  numbered_in : (i : ℕ) (ps : List AxisPoint) → i + length ps ≤ n → AllByRecursion In (numbered i ps)
   numbered_in i [] le = tt
   numbered_in i (p ∷ ps) le = (omega arith, numbered_in (i + 1) ps (omega arith))
 
-  round_in : (s : ℕ) (vs : List Visit) → All In vs → All In (once_round s vs)
+  round_in : (s : ℕ) (vs : List Visit) → AllByRecursion In vs → AllByRecursion In (once_round s vs)
   round_in s vs a =
       All-append In (drop s vs) (take s vs ++ map ending (take 1 (drop s vs))) (All-drop In s vs a)
       (All-append In (take s vs) (map ending (take 1 (drop s vs))) (All-take In s vs a)
       (All-map In ending (take 1 (drop s vs)) (All-take In 1 (drop s vs) (All-drop In s vs a))))
 
-  first_in : (t : Taken) → All In (visits_in t) → In (first_of t)
+  first_in : (t : Taken) → AllByRecursion In (visits_in t) → In (first_of t)
   first_in (lone v) h = h.0
   first_in (more t v) h = first_in t (all_left In (visits_in t) (v ∷ []) h)
 
-  end_in : (t : Taken) → All In (visits_in t) → In (last_of t)
+  end_in : (t : Taken) → AllByRecursion In (visits_in t) → In (last_of t)
   end_in (lone v) h = h.0
   end_in (more t v) h = (all_right In (visits_in t) (v ∷ []) h).0
 
-  module _ (dim : Dimension) (vs : List Visit) (in-vs : All In vs) where
-    row_in : (t : Taken) → Row dim vs t → All In (visits_in t)
-    row_in t r = all_left In (visits_in t) r.after (all_right In r.before (visits_in t ++ r.after) (subst (All In) r.along in-vs))
+  module _ (dim : Dimension) (vs : List Visit) (in-vs : AllByRecursion In vs) where
+    row_in : (t : Taken) → Row dim vs t → AllByRecursion In (visits_in t)
+    row_in t r = all_left In (visits_in t) r.after (all_right In r.before (visits_in t ++ r.after) (subst (AllByRecursion In) r.along in-vs))
 
-    whole_in : (g : Group) → All (Row dim vs) (rows_in g) → In (last_of (whole g))
+    whole_in : (g : Group) → AllByRecursion (Row dim vs) (rows_in g) → In (last_of (whole g))
     whole_in (single t) h = end_in t (row_in t h.0)
     whole_in (then g t) h =
         subst In (sym (last-both (whole g) t)) (end_in t (row_in t (all_right (Row dim vs) (rows_in g) (t ∷ []) h).0))
 
-    merged_in : (g : Group) (s : Stretch) → All (Row dim vs) (rows_in g) → Merged g s → InS s
+    merged_in : (g : Group) (s : Stretch) → AllByRecursion (Row dim vs) (rows_in g) → Merged g s → InS s
     merged_in g s h m = record {
-      first = first_in s.own (row_in s.own (all_right (Row dim vs) m.before (s.own ∷ m.after) (subst (All (Row dim vs)) m.parts h)).0);
+      first = first_in s.own (row_in s.own (all_right (Row dim vs) m.before (s.own ∷ m.after) (subst (AllByRecursion (Row dim vs)) m.parts h)).0);
       last = subst (λ (t : Taken). In (last_of t)) (sym m.all) (whole_in g h);
     }
 
-    groups_in : (gs : List Group) (ss : List Stretch) → All (Row dim vs) (all_rows gs) → AllMerged gs ss → All InS ss
+    groups_in : (gs : List Group) (ss : List Stretch) → AllByRecursion (Row dim vs) (all_rows gs) → AllMerged gs ss → AllByRecursion InS ss
     groups_in [] [] h m = tt
     groups_in [] (s ∷ ss) h m = absurd m
     groups_in (g ∷ gs) [] h m = absurd m
@@ -79,7 +79,7 @@ module _ (n : ℕ) where
       groups_in gs ss (all_right (Row dim vs) (rows_in g) (all_rows gs) h) m.1,
     )
 
-course_in : (dim : Dimension) (ps : List AxisPoint) → All (InS (length ps)) (stretches_of (course_of dim ps))
+course_in : (dim : Dimension) (ps : List AxisPoint) → AllByRecursion (InS (length ps)) (stretches_of (course_of dim ps))
 course_in dim [] = tt
 course_in dim (p ∷ []) = (record { first = omega arith; last = omega arith }, tt)
 course_in dim (p ∷ q ∷ ps) =
@@ -90,11 +90,11 @@ course_in dim (p ∷ q ∷ ps) =
 
 -- what holds of the segment of each stretch holds of each segment
 each_segment : (P : Segment → Type 0) (units : ℕ) (n : ℕ) → ((s : Stretch) → InS n s → P (segment_of units (summary 0 s))) →
-    (ss : List Stretch) → All (InS n) ss → All P (map (λ s. segment_of units (summary 0 s)) ss)
+    (ss : List Stretch) → AllByRecursion (InS n) ss → AllByRecursion P (map (λ s. segment_of units (summary 0 s)) ss)
 each_segment P units n f [] h = tt
 each_segment P units n f (s ∷ ss) h = (f s h.0, each_segment P units n f ss h.1)
 
-segments_in : (dim : Dimension) (units : ℕ) (ps : List Point) → All (λ s. (s.first < length ps) × (s.last < length ps)) (segments_of dim units ps)
+segments_in : (dim : Dimension) (units : ℕ) (ps : List Point) → AllByRecursion (λ s. (s.first < length ps) × (s.last < length ps)) (segments_of dim units ps)
 unfolding segments_of
 segments_in dim units ps =
     let n : length (map (seen dim) ps) ≡ length ps = length-map ps (seen dim) in
@@ -102,7 +102,7 @@ segments_in dim units ps =
     (λ s h. (omega (arith, h.first), omega (arith, h.last)))
     (stretches_of (course_of dim (map (seen dim) ps))) (course_in dim (map (seen dim) ps))
 
-segments_unlinked : (dim : Dimension) (units : ℕ) (ps : List Point) → All Unlinked (segments_of dim units ps)
+segments_unlinked : (dim : Dimension) (units : ℕ) (ps : List Point) → AllByRecursion Unlinked (segments_of dim units ps)
 unfolding segments_of
 segments_unlinked dim units ps =
     each_segment Unlinked units (length (map (seen dim) ps))
@@ -111,7 +111,7 @@ segments_unlinked dim units ps =
 
 module _ (dim : Dimension) (units : ℕ) (ps : List Point) where
   -- one contour among others
-  entries_lie : (cs : List Contour) (c : Contour) → Has cs c → c.first ≤ c.end → c.end ≤ length ps → All (Lies cs) (entries_of dim units ps c)
+  entries_lie : (cs : List Contour) (c : Contour) → ContainsAt cs c → c.first ≤ c.end → c.end ≤ length ps → AllByRecursion (Lies cs) (entries_of dim units ps c)
   unfolding entries_of
   entries_lie cs c has le end =
       let n : length (points_of ps c) ≡ c.end - c.first
@@ -128,7 +128,7 @@ module _ (dim : Dimension) (units : ℕ) (ps : List Point) where
       })
       (segments_of dim units (points_of ps c)) (segments_in dim units (points_of ps c)))
 
-  entries_unlinked : (c : Contour) → All Unlinked (entries_of dim units ps c)
+  entries_unlinked : (c : Contour) → AllByRecursion Unlinked (entries_of dim units ps c)
   unfolding entries_of
   entries_unlinked c =
       All-map Unlinked (shifted c.first) (segments_of dim units (points_of ps c))
@@ -136,25 +136,25 @@ module _ (dim : Dimension) (units : ℕ) (ps : List Point) where
       (λ s h. record { ordered = h.ordered; tall = h.tall; score = h.score; link = h.link; serif = h.serif })
       (segments_of dim units (points_of ps c)) (segments_unlinked dim units (points_of ps c)))
 
-  all_lie : (cs ds : List Contour) → ((c : Contour) → Has ds c → Has cs c) → Inside (length ps) ds → All (Lies cs) (all_entries dim units ps ds)
+  all_lie : (cs ds : List Contour) → ((c : Contour) → ContainsAt ds c → ContainsAt cs c) → Inside (length ps) ds → AllByRecursion (Lies cs) (all_entries dim units ps ds)
   all_lie cs [] f i = tt
   all_lie cs (d ∷ ds) f i =
       All-append (Lies cs) (entries_of dim units ps d) (all_entries dim units ps ds)
       (entries_lie cs d (f d (here d ds)) i.0 i.1)
       (all_lie cs ds (λ c h. f c (has_append_right (d ∷ []) ds c h)) i.2)
     where
-      here : (d : Contour) (ds : List Contour) → Has (d ∷ ds) d
+      here : (d : Contour) (ds : List Contour) → ContainsAt (d ∷ ds) d
       here d ds = (0, omega arith, λ _. refl)
 
-  all_unlinked : (ds : List Contour) → All Unlinked (all_entries dim units ps ds)
+  all_unlinked : (ds : List Contour) → AllByRecursion Unlinked (all_entries dim units ps ds)
   all_unlinked [] = tt
   all_unlinked (d ∷ ds) = All-append Unlinked (entries_of dim units ps d) (all_entries dim units ps ds) (entries_unlinked d) (all_unlinked ds)
 
   granted_within : (cs : List Contour) (t t' : List Segment) (n : ℕ) → Inside (length ps) cs → Granted dim units ps cs t t' n →
-      All (Lies cs) (take n t') × All Unlinked (take n t')
+      AllByRecursion (Lies cs) (take n t') × AllByRecursion Unlinked (take n t')
   granted_within cs t t' n i g =
       let front : take n t' ≡ all_entries dim units ps cs = ap (take n) g.table ∙ take_at (all_entries dim units ps cs) _ n (sym g.count) in
-      (subst (All (Lies cs)) (sym front) (all_lie cs cs (λ c h. h) i), subst (All Unlinked) (sym front) (all_unlinked cs))
+      (subst (AllByRecursion (Lies cs)) (sym front) (all_lie cs cs (λ c h. h) i), subst (AllByRecursion Unlinked) (sym front) (all_unlinked cs))
 
   pub read-within : (cs : List Contour) (t t' : List Segment) (r : Result ℕ BuildFault) → Inside (length ps) cs → Read dim units ps cs t t' r → Within cs t' r
   read-within cs t t' (Ok n) i g = granted_within cs t t' n i g

@@ -1,6 +1,6 @@
 -- The laws of a reading, in words.
 use Rattle.std.specs.Prelude.{◌≡◌, ℕ, ◌<◌, ◌≤◌, List, [], ◌∷◌, ◌++◌, map, length, take, drop, pos, ◌-ℤ◌, ◌≤ℤ◌, None, Ok, Err, Result}
-use Rattle.std.specs.List.{AllZip, ContainsAt as Has, AllByRecursion as All}
+use Rattle.std.specs.List.{AllZip, ContainsAt, AllByRecursion}
 use Rattle.outline.specs.declared.contours.Contour.{Contour}
 use Rattle.outline.specs.declared.points.Point.{Point}
 use Rattle.segments.specs.declared.faults.BuildFault.{BuildFault}
@@ -14,7 +14,7 @@ use Rattle.segments.specs.Stretches.{segments_of, most_of, shifted}
 -- first and last point of the segment are points of one contour of the list
 pub record Lies (cs : List Contour) (s : Segment) : Type 0 where
   pub contour : Contour
-  pub listed : Has cs contour
+  pub listed : ContainsAt cs contour
   pub first_low : contour.first ≤ s.first
   pub first_high : s.first < contour.end
   pub last_low : contour.first ≤ s.last
@@ -30,7 +30,7 @@ pub record Unlinked (s : Segment) : Type 0 where
 
 -- each segment of a reading that is granted
 abbrev pub Within : List Contour → List Segment → Result ℕ BuildFault → Type 0
-Within cs t (Ok n) = All (Lies cs) (take n t) × All Unlinked (take n t)
+Within cs t (Ok n) = AllByRecursion (Lies cs) (take n t) × AllByRecursion Unlinked (take n t)
 Within cs t (Err e) = Unit {0}
 
 -- two records that a reading does not tell apart: it asks neither for marks and the direction that leads in, nor for neighbours

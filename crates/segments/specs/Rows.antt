@@ -1,6 +1,6 @@
 -- How a contour falls into segments, in words: rows of points, merged where they touch.
 use Rattle.std.specs.Prelude.{◌≡◌, ◌<◌, ◌≤◌, Bool, true, false, not, ◌&&◌, List, [], ◌∷◌, ◌++◌, filter, ◌≢◌}
-use Rattle.std.specs.List.{AllByRecursion as All}
+use Rattle.std.specs.List.{AllByRecursion}
 use Rattle.outline.specs.Directions.{same}
 use Rattle.outline.specs.declared.directions.Direction.{Direction}
 use Rattle.segments.specs.declared.measures.AxisPoint.{AxisPoint}
@@ -36,7 +36,7 @@ pub record Row (dim : Dimension) (vs : List Visit) (t : Taken) : Type 0 where
   pub after : List Visit
   pub along : vs ≡ before ++ (visits_in t ++ after)
   pub starts : Last (λ v. v.point.out_dir ≢ heading t) before
-  pub runs : All (λ v. (goes dim v ≡ true) × (v.point.out_dir ≡ heading t)) (front t)
+  pub runs : AllByRecursion (λ v. (goes dim v ≡ true) × (v.point.out_dir ≡ heading t)) (front t)
   pub shuts : (same (last_of t).point.out_dir (heading t) && not (last_of t).ends) ≡ false
 
 -- rows that are merged, one after another
@@ -65,8 +65,8 @@ pub record Merged (g : Group) (s : Stretch) : Type 0 where
   pub before : List Taken
   pub after : List Taken
   pub parts : rows_in g ≡ before ++ s.own ∷ after
-  pub none_taller : All (λ r. height_of r ≤ height_of s.own) before
-  pub later_lower : All (λ r. height_of r < height_of s.own) after
+  pub none_taller : AllByRecursion (λ r. height_of r ≤ height_of s.own) before
+  pub later_lower : AllByRecursion (λ r. height_of r < height_of s.own) after
 
 -- so it is, group for group
 abbrev pub AllMerged : List Group → List Stretch → Type 0
@@ -90,7 +90,7 @@ Apart (a ∷ b ∷ ss) = ((last_of a.all).at ≢ (first_of b.all).at) × Apart (
 -- rows that touch are merged into one segment, and no two segments touch
 pub record Falls (dim : Dimension) (vs : List Visit) (ss : List Stretch) : Type 0 where
   pub groups : List Group
-  pub rows : All (Row dim vs) (all_rows groups)
+  pub rows : AllByRecursion (Row dim vs) (all_rows groups)
   pub covers : fronts (all_rows groups) ≡ filter (goes dim) vs
   pub merged : AllMerged groups ss
   pub apart : Apart ss

@@ -1,6 +1,6 @@
 -- Where the walk round a contour begins.
 use Rattle.std.specs.Prelude.{◌≡◌, ℕ, ◌+◌, Bool, true, false, cond, ◌&&◌, List, [], ◌∷◌, take, drop, MatchBool}
-use Rattle.std.specs.List.{AllByRecursion as All}
+use Rattle.std.specs.List.{AllByRecursion}
 use Rattle.segments.specs.declared.measures.AxisPoint.{AxisPoint}
 use Rattle.segments.specs.declared.measures.Dimension.{Dimension}
 use Rattle.segments.specs.Measures.{on_line}
@@ -43,7 +43,7 @@ Last P (x ∷ y ∷ xs) = Last P (y ∷ xs)
 abbrev pub Begins : Dimension → List AxisPoint → ℕ → Type 0
 Begins dim ps s =
     MatchBool (head_on dim ps && last_on dim ps)
-    (All (λ p. on dim p ≡ true) (drop s ps) × Last (λ p. on dim p ≡ false) (take s ps))
+    (AllByRecursion (λ p. on dim p ≡ true) (drop s ps) × Last (λ p. on dim p ≡ false) (take s ps))
     (s ≡ 0)
 
 abbrev pub StartsTold : Type 0

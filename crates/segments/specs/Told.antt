@@ -1,7 +1,7 @@
 -- What a segment is, in words: relations between it and the points that it took in.
 use Rattle.std.specs.Prelude.{◌≡◌, ℕ, ◌/◌, Bool, not, ◌⊎◌, List, [], ◌∷◌, ◌++◌, map, ℤ, pos, ◌+ℤ◌, ◌-ℤ◌, ◌≤ℤ◌, ◌<ℤ◌, Decides, filter, ◌≢◌}
 use Rattle.std.specs.Int.Signed.{shr_z}
-use Rattle.std.specs.List.{ContainsAt as Has, AllByRecursion as All}
+use Rattle.std.specs.List.{ContainsAt, AllByRecursion}
 use Rattle.outline.specs.declared.points.PointKind.{PointKind}
 use Rattle.outline.specs.declared.points.PointKind.TheVariants.{Control}
 use Rattle.segments.specs.declared.measures.AxisPoint.{AxisPoint}
@@ -29,10 +29,10 @@ curve ps = coordinates (filter on_curve ps)
 
 -- one of the numbers, and none is less; none is greater
 abbrev pub Least : ℤ → List ℤ → Type 0
-Least m zs = Has zs m × All (λ z. m ≤ℤ z) zs
+Least m zs = ContainsAt zs m × AllByRecursion (λ z. m ≤ℤ z) zs
 
 abbrev pub Greatest : ℤ → List ℤ → Type 0
-Greatest m zs = Has zs m × All (λ z. z ≤ℤ m) zs
+Greatest m zs = ContainsAt zs m × AllByRecursion (λ z. z ≤ℤ m) zs
 
 -- the first of the points that has the coordinate m is of kind k
 pub record First (m : ℤ) (k : PointKind) (ps : List AxisPoint) : Type 0 where
@@ -40,13 +40,13 @@ pub record First (m : ℤ) (k : PointKind) (ps : List AxisPoint) : Type 0 where
   pub giver : AxisPoint
   pub after : List AxisPoint
   pub parts : ps ≡ before ++ giver ∷ after
-  pub none : All (λ q. q.coordinate.0 ≢ m) before
+  pub none : AllByRecursion (λ q. q.coordinate.0 ≢ m) before
   pub gives : giver.coordinate.0 ≡ m
   pub kind : giver.kind ≡ k
 
 -- any two of the numbers are less than a fourteenth of the em apart
 abbrev pub Close : ℕ → List ℤ → Type 0
-Close units zs = All (λ y. All (λ z. (z -ℤ y) <ℤ pos (units / 14)) zs) zs
+Close units zs = AllByRecursion (λ y. AllByRecursion (λ z. (z -ℤ y) <ℤ pos (units / 14)) zs) zs
 
 -- position and delta are by the least and the greatest position of all points; least and greatest coordinate, height and
 -- roundness are by its own points

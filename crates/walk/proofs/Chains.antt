@@ -1,6 +1,6 @@
 -- The ends that a walk finds, and their u and v once it has gone round.
 use Rattle.std.proofs.Common.{◌≡◌, ℕ, zero, suc, ◌<◌, ◌≤◌, true, false, cond, not, ◌⊎◌, List, [], ◌∷◌, ◌++◌, length, Decides, sym, refl, ap, ◌∙◌, subst, inl, inr, arith}
-use Rattle.std.specs.List.{ContainsAt as Has}
+use Rattle.std.specs.List.{ContainsAt}
 use Rattle.std.proofs.lemmas.Bool.{cond-true, cond-false, cond_both, cases_Bool, cases_eq, not_from_true, not_from_false, both_ways}
 use Rattle.walk.specs.declared.legs.Leg.{Leg}
 use Rattle.walk.specs.declared.marks.Mark.{Mark}
@@ -23,17 +23,17 @@ unfolding leg_ends
 ends_same n s l ls e = cond-false l.end _ _ e
 
 -- elements of a list
-pub has_first : (x : ℕ) (xs : List ℕ) → Has (x ∷ xs) x
+pub has_first : (x : ℕ) (xs : List ℕ) → ContainsAt (x ∷ xs) x
 has_first x xs = (0, omega arith, λ d. refl)
 
-pub has_rest : (x y : ℕ) (xs : List ℕ) → Has xs x → Has (y ∷ xs) x
+pub has_rest : (x y : ℕ) (xs : List ℕ) → ContainsAt xs x → ContainsAt (y ∷ xs) x
 has_rest x y xs (k, h, e) = (suc k, omega arith, e)
 
-pub has_cases : (x y : ℕ) (xs : List ℕ) → Has (y ∷ xs) x → (y ≡ x) ⊎ Has xs x
+pub has_cases : (x y : ℕ) (xs : List ℕ) → ContainsAt (y ∷ xs) x → (y ≡ x) ⊎ ContainsAt xs x
 has_cases x y xs (zero, h, e) = inl (e 0)
 has_cases x y xs (suc k, h, e) = inr (k, omega arith, e)
 
-pub has_none : (x : ℕ) → Has [] x → ⊥
+pub has_none : (x : ℕ) → ContainsAt [] x → ⊥
 has_none x (k, h, e) = omega arith
 
 -- an end is a point that the walk comes to
@@ -42,19 +42,19 @@ pub record Come (n s m x : ℕ) : Type 0 where
   pub less : left < m
   pub is : place n s left ≡ x
 
-pub ends_come : (n s : ℕ) (ls : List Leg) (x : ℕ) → Has (leg_ends n s ls) x → Come n s (length ls) x
+pub ends_come : (n s : ℕ) (ls : List Leg) (x : ℕ) → ContainsAt (leg_ends n s ls) x → Come n s (length ls) x
 unfolding leg_ends
 ends_come n s [] x h = absurd (has_none x h)
 ends_come n s (l ∷ ls) x h =
-    let later : Has (leg_ends n s ls) x → Come n s (suc (length ls)) x =
+    let later : ContainsAt (leg_ends n s ls) x → Come n s (suc (length ls)) x =
     λ r. let c = ends_come n s ls x r in record { left = c.left; less = omega (arith, c.less); is = c.is } in
     elim (cases_Bool l.end) [
       | inl e ↦
-          elim (has_cases x _ _ (subst (λ (es : List ℕ). Has es x) (ends_more n s l ls e) h)) [
+          elim (has_cases x _ _ (subst (λ (es : List ℕ). ContainsAt es x) (ends_more n s l ls e) h)) [
             | inl here ↦ record { left = length ls; less = omega arith; is = here }
             | inr r ↦ later r
           ]
-      | inr e ↦ later (subst (λ (es : List ℕ). Has es x) (ends_same n s l ls e) h)
+      | inr e ↦ later (subst (λ (es : List ℕ). ContainsAt es x) (ends_same n s l ls e) h)
     ]
 
 -- one step of the round, by whether it ends its sum
@@ -153,7 +153,7 @@ module _ (n s : ℕ) (in_s : s < n) where
   last [] ms long fits here = joined_start (place n s 0) ms long here
   last (l ∷ ls) ms long fits here = absurd (apart n s 0 (suc (length ls)) in_s (omega arith) (omega arith) (omega arith) (place_none n s ∙ sym here))
 
-  pub start_end : (e : ℕ) (ls : List Leg) (ms : List Mark) → length ms ≡ n → length ls ≤ n → Has (leg_ends n s ls) s
+  pub start_end : (e : ℕ) (ls : List Leg) (ms : List Mark) → length ms ≡ n → length ls ≤ n → ContainsAt (leg_ends n s ls) s
       → ((mark (round n s e ls ms) s).v ≡ s) × ((mark (round n s e ls ms) s).u ≡ s)
   unfolding leg_ends round
   start_end e [] ms long fits h = absurd (has_none s h)
@@ -165,13 +165,13 @@ module _ (n s : ℕ) (in_s : s < n) where
       elim (cases_Bool l.end) [
         | inl end ↦
             rw (round_end n s e l ls ms end)
-            (elim (has_cases s j _ (subst (λ (es : List ℕ). Has es s) (ends_more n s l ls end) h)) [
+            (elim (has_cases s j _ (subst (λ (es : List ℕ). ContainsAt es s) (ends_more n s l ls end) h)) [
               | inl here ↦ last ls (join e j st) (omega arith) (omega arith) here
               | inr r ↦ start_end j ls (join e j st) (omega arith) (omega arith) r
             ])
         | inr z ↦
             rw (round-on n s e l ls ms z)
-            (start_end e ls st (omega arith) (omega arith) (subst (λ (es : List ℕ). Has es s) (ends_same n s l ls z) h))
+            (start_end e ls st (omega arith) (omega arith) (subst (λ (es : List ℕ). ContainsAt es s) (ends_same n s l ls z) h))
       ]
 
   -- no end at all
@@ -190,22 +190,22 @@ module _ (n s : ℕ) (in_s : s < n) where
       ]
 
   -- one step more
-  pub ends_in : (l : Leg) (ls : List Leg) (x : ℕ) → Has (leg_ends n s ls) x → Has (leg_ends n s (l ∷ ls)) x
+  pub ends_in : (l : Leg) (ls : List Leg) (x : ℕ) → ContainsAt (leg_ends n s ls) x → ContainsAt (leg_ends n s (l ∷ ls)) x
   unfolding leg_ends
   ends_in l ls x h =
-      cond_both l.end _ _ (λ (es : List ℕ). Has es x) (λ _. has_rest x (place n s (length ls)) (leg_ends n s ls) h) (λ _. h)
+      cond_both l.end _ _ (λ (es : List ℕ). ContainsAt es x) (λ _. has_rest x (place n s (length ls)) (leg_ends n s ls) h) (λ _. h)
 
-  ends_out : (l : Leg) (ls : List Leg) (x : ℕ) → (place n s (length ls) ≡ x → ⊥) → Has (leg_ends n s (l ∷ ls)) x → Has (leg_ends n s ls) x
+  ends_out : (l : Leg) (ls : List Leg) (x : ℕ) → (place n s (length ls) ≡ x → ⊥) → ContainsAt (leg_ends n s (l ∷ ls)) x → ContainsAt (leg_ends n s ls) x
   ends_out l ls x ne h =
       elim (cases_Bool l.end) [
         | inl end ↦
-            elim (has_cases x _ _ (subst (λ (es : List ℕ). Has es x) (ends_more n s l ls end) h)) [ inl here ↦ absurd (ne here) | inr r ↦ r ]
-        | inr z ↦ subst (λ (es : List ℕ). Has es x) (ends_same n s l ls z) h
+            elim (has_cases x _ _ (subst (λ (es : List ℕ). ContainsAt es x) (ends_more n s l ls end) h)) [ inl here ↦ absurd (ne here) | inr r ↦ r ]
+        | inr z ↦ subst (λ (es : List ℕ). ContainsAt es x) (ends_same n s l ls z) h
       ]
 
   -- a point is not weak exactly where it is an end
   pub ends_strong : (e : ℕ) (ls : List Leg) (ms : List Mark) → length ms ≡ n → length ls ≤ n → (t : ℕ) → t < length ls
-      → Decides (not (mark (round n s e ls ms) (place n s t)).weak) (Has (leg_ends n s ls) (place n s t))
+      → Decides (not (mark (round n s e ls ms) (place n s t)).weak) (ContainsAt (leg_ends n s ls) (place n s t))
   unfolding round
   ends_strong e [] ms long fits t h = absurd (omega arith)
   ends_strong e (l ∷ ls) ms long fits t h =
@@ -224,7 +224,7 @@ module _ (n s : ℕ) (in_s : s < n) where
                   let soft : (mark (round n s e (l ∷ ls) ms) j).weak ≡ true = weak ∙ not_from_false l.end z in (
                     (λ y. absurd (both_ways _ (not_from_true _ soft) y)),
                     λ has.
-                        let c = ends_come n s ls j (subst (λ (es : List ℕ). Has es j) (ends_same n s l ls z) has) in
+                        let c = ends_come n s ls j (subst (λ (es : List ℕ). ContainsAt es j) (ends_same n s l ls z) has) in
                         absurd (apart n s c.left (length ls) in_s c.less (omega arith) (omega arith) c.is),
                   )
             ])

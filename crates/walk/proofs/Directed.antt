@@ -1,6 +1,6 @@
 -- The directions of the steps, once the walk has gone round.
 use Rattle.std.proofs.Common.{◌≡◌, ℕ, suc, ◌<◌, ◌≤◌, true, false, List, [], ◌∷◌, ◌++◌, length, sym, refl, ap, ◌∙◌, inl, inr, arith}
-use Rattle.std.specs.List.{ContainsAt as Has}
+use Rattle.std.specs.List.{ContainsAt}
 use Rattle.std.proofs.lemmas.Bool.{cond-true, cond-false, cases_Bool, cases_eq, not-true, both_ways}
 use Rattle.outline.specs.declared.directions.Direction.{Direction}
 use Rattle.outline.specs.declared.directions.Direction.TheVariants.{None}
@@ -69,7 +69,7 @@ module _ (n s : ℕ) (in_s : s < n) where
 
   -- a sum that is not finished
   pub not_finished : (e : ℕ) (l : Leg) (ls : List Leg) (ms : List Mark) → length ms ≡ n → suc (length ls) ≤ n → Level (l ∷ ls)
-      → (Has (leg_ends n s (l ∷ ls)) s → ⊥) → (mark (round n s e (l ∷ ls) ms) s).in_dir ≡ None
+      → (ContainsAt (leg_ends n s (l ∷ ls)) s → ⊥) → (mark (round n s e (l ∷ ls) ms) s).in_dir ≡ None
   unfolding round
   not_finished e l [] ms long fits level no_end =
       let here = place_none n s in

@@ -1,6 +1,6 @@
 -- What the marks say after the walk.
 use Rattle.std.proofs.Common.{◌≡◌, ℕ, zero, suc, ◌<◌, ◌≤◌, true, List, [], ◌∷◌, ◌++◌, length, sym, refl, ap, ◌∙◌, subst, inl, inr, arith}
-use Rattle.std.specs.List.{ContainsAt as Has}
+use Rattle.std.specs.List.{ContainsAt}
 use Rattle.std.proofs.lemmas.Bool.{cond_both, ltb-true}
 use Rattle.outline.specs.declared.directions.Direction.TheVariants.{None}
 use Rattle.outline.specs.declared.points.DrawnPoint.{DrawnPoint}
@@ -28,7 +28,7 @@ not_last n s x (suc k) is ne = (k, refl)
 
 -- a sum that is not finished, of any legs
 unfinished-at : (n s e : ℕ) (ls : List Leg) (ms : List Mark) → s < n → length ms ≡ n → 0 < length ls → length ls ≤ n → Level ls
-    → (Has (leg_ends n s ls) s → ⊥) → (mark (round n s e ls ms) s).in_dir ≡ None
+    → (ContainsAt (leg_ends n s ls) s → ⊥) → (mark (round n s e ls ms) s).in_dir ≡ None
 unfinished-at n s e [] ms in_s long some fits level none = absurd (omega arith)
 unfinished-at n s e (l ∷ ls) ms in_s long some fits level none = not_finished n s in_s e l ls ms long fits level none
 

@@ -1,6 +1,6 @@
 -- The walk in other words: the ends that it finds, and what its marks say of them.
 use Rattle.std.specs.Prelude.{◌≡◌, ℕ, zero, suc, ◌<◌, true, cond, not, ◌⊎◌, List, [], ◌∷◌, ◌++◌, length, Decides, ◌≢◌, nat_lt, slice_index_or}
-use Rattle.std.specs.List.{ContainsAt as Has}
+use Rattle.std.specs.List.{ContainsAt}
 use Rattle.outline.specs.declared.directions.Direction.{Direction}
 use Rattle.outline.specs.declared.directions.Direction.TheVariants.{None}
 use Rattle.outline.specs.declared.points.DrawnPoint.{DrawnPoint}
@@ -44,18 +44,18 @@ mark ms i = slice_index_or ms i blank
 -- What the marks of a contour say after the walk; s is where it starts.
 pub record WalkedRound (N : ℕ) (ps : List DrawnPoint) (ms : List Mark) : Type 0 where
   -- a point is not weak exactly where it is an end
-  pub ends : (i : ℕ) → i < length ps → Decides (not (mark ms i).weak) (Has (ends_of N ps) i)
+  pub ends : (i : ℕ) → i < length ps → Decides (not (mark ms i).weak) (ContainsAt (ends_of N ps) i)
   -- v of an end is the end before it, and u the end after it; s comes before the first end and after the last
   pub chain : (xs ys : List ℕ) (e : ℕ) → ends_of N ps ≡ xs ++ (e ∷ ys) → (e ≢ start_of N ps)
       → ((mark ms e).v ≡ last_or (start_of N ps) xs) × ((mark ms e).u ≡ first_or (start_of N ps) ys)
   -- where s itself is an end, or there is none, u and v of s are s itself
-  pub start : Has (ends_of N ps) (start_of N ps) ⊎ (ends_of N ps ≡ [])
+  pub start : ContainsAt (ends_of N ps) (start_of N ps) ⊎ (ends_of N ps ≡ [])
       → ((mark ms (start_of N ps)).v ≡ start_of N ps) × ((mark ms (start_of N ps)).u ≡ start_of N ps)
   -- the direction that comes in at an end is that of the vector from the end before it, where the sum began
   pub sums : (xs ys : List ℕ) (e : ℕ) → ends_of N ps ≡ xs ++ (e ∷ ys)
       → (mark ms e).in_dir ≡ direction_to ps (last_or (start_of N ps) xs) e
   -- a sum that is not finished when s is met again has no direction
-  pub unfinished : (Has (ends_of N ps) (start_of N ps) → ⊥) → (mark ms (start_of N ps)).in_dir ≡ None
+  pub unfinished : (ContainsAt (ends_of N ps) (start_of N ps) → ⊥) → (mark ms (start_of N ps)).in_dir ≡ None
   -- a step has one direction, which goes out where it begins and comes in where it ends
   pub steps : (i : ℕ) → i < length ps → (mark ms i).out_dir ≡ (mark ms (following (length ps) i)).in_dir
   -- a sum goes on at a weak point with the direction that it came in with

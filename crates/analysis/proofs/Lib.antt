@@ -5,3 +5,5 @@ pub mod Products
 pub mod Turns
 pub mod Ranges
 pub mod Tilings
+pub mod Standing
+pub mod Meanings

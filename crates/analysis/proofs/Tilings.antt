@@ -1,16 +1,14 @@
 -- Contours one after another: one turn of a loop over them.
 use Rattle.std.proofs.Common.{◌≡◌, ℕ, ◌+◌, ◌-◌, ◌*◌, ◌^◌, ◌<◌, ◌≤◌, Bool, List, [], ◌∷◌, ◌++◌, length, get_or, take, drop, ℤ, pos, ◌+ℤ◌, nat_abs, refl, ◌∙◌, subst, append_assoc, arith}
-use lib.Seq.{drop-append-add}
-use Rattle.std.proofs.lemmas.List.{drop_more, drop_all, take_all, take-append-le, length-take, length-drop, length-append, append-nil, take_at}
+use Rattle.std.proofs.lemmas.List.{drop_more, drop_all, take_all, take-append-le, length-take, length-drop, length-append, append-nil}
 use Rattle.std.proofs.lemmas.List.FromFn.{length-map-range_with_len}
 use Rattle.std.proofs.lemmas.Int.{ints}
 use Rattle.outline.specs.declared.contours.Contour.{Contour}
 use Rattle.outline.specs.declared.points.DrawnPoint.{DrawnPoint}
 use Rattle.outline.specs.declared.points.Point.{Point}
 use Rattle.analysis.specs.Records.{analysed, records, record_at, marks_of}
-use Rattle.analysis.specs.Outlines.{Tiles, points_of, cut_out, outline_records, replaced, StandAlone}
+use Rattle.analysis.specs.Outlines.{Tiles, points_of, cut_out, outline_records, replaced}
 use Rattle.analysis.specs.Areas.{contour_area, total_area}
-use Rattle.analysis.proofs.Fills.{alone}
 use Rattle.analysis.proofs.Turns.{grouped}
 
 -- what is left of the contours begins at b, and goes up to n
@@ -49,7 +47,7 @@ pub written_none : (F : ℤ → ℤ → ℤ → ℤ → Bool) (N : ℕ) (ps : Li
     → Tiles 0 (length ps) cs → Written F N ps cs out 0
 written_none F N ps cs out t = record { from = 0; tiles = t; so_far = refl }
 
-records-first : (F : ℤ → ℤ → ℤ → ℤ → Bool) (N b : ℕ) (qs : List DrawnPoint) (css : List (List DrawnPoint))
+pub records-first : (F : ℤ → ℤ → ℤ → ℤ → Bool) (N b : ℕ) (qs : List DrawnPoint) (css : List (List DrawnPoint))
     → outline_records F N b (qs ∷ css) ≡ analysed F N b qs ++ outline_records F N (b + length qs) css
 unfolding outline_records
 records-first F N b qs css = refl
@@ -88,53 +86,6 @@ written_all F N ps cs out k done long w =
     let whole = take_all w.from out (omega arith) in
     let old = w.so_far in
     let nil = append-nil out in
-    cc
-
--- each contour's records, where they were written
-records-at : (F : ℤ → ℤ → ℤ → ℤ → Bool) (N b n : ℕ) (ps : List DrawnPoint) (before after : List Contour) (c : Contour) → n ≡ length ps
-    → Tiles b n (before ++ (c ∷ after))
-    → (b ≤ c.first)
-    × (take (c.end - c.first) (drop (c.first - b) (outline_records F N b (cut_out (before ++ (c ∷ after)) ps)))
-    ≡ analysed F N c.first (points_of ps c))
-records-at F N b n ps [] after c long t =
-    let qs = points_of ps c in
-    let A = analysed F N b qs in
-    let R = outline_records F N (b + length qs) (cut_out after ps) in
-    let first = records-first F N b qs (cut_out after ps) in
-    let here : c.first ≡ b = t.0 in
-    let none : c.first - b ≡ 0 = omega arith in
-    let end = tiles_le c.end n after t.2 in
-    let l₁ = length-points ps c (omega arith) in
-    let l₂ = length-analysed F N b qs in
-    let part = take_at A R (c.end - c.first) (omega arith) in
-    let whole : drop 0 (A ++ R) ≡ A ++ R = refl in
-    (omega arith, cc)
-records-at F N b n ps (d ∷ before) after c long t =
-    let qs = points_of ps d in
-    let rest = cut_out (before ++ (c ∷ after)) ps in
-    let A = analysed F N b qs in
-    let R = outline_records F N d.end rest in
-    let more = records-at F N d.end n ps before after c long t.2 in
-    let here : d.first ≡ b = t.0 in
-    let some : d.first < d.end = t.1 in
-    let past : d.end ≤ c.first = more.0 in
-    let end = tiles_le d.end n (before ++ (c ∷ after)) t.2 in
-    let l₁ = length-points ps d (omega arith) in
-    let l₂ = length-analysed F N b qs in
-    let first = records-first F N b qs rest in
-    let next : b + length qs ≡ d.end = omega arith in
-    let on : length A + (c.first - d.end) ≡ c.first - b = omega arith in
-    let skip = drop-append-add A R (c.first - d.end) in
-    let found = more.1 in
-    (omega arith, cc)
-
-pub stand_alone : (F : ℤ → ℤ → ℤ → ℤ → Bool) (N : ℕ) (cs : List Contour) (ps : List DrawnPoint) (out : List Point)
-    → Tiles 0 (length ps) cs → out ≡ outline_records F N 0 (cut_out cs ps) → StandAlone F N cs ps out
-stand_alone F N cs ps out tiles is before after c e =
-    let t : Tiles 0 (length ps) (before ++ (c ∷ after)) = subst (λ (xs : List Contour). Tiles 0 (length ps) xs) e tiles in
-    let at = (records-at F N 0 (length ps) ps before after c refl t).1 in
-    let none : c.first - 0 ≡ c.first = omega arith in
-    let shift = alone F N c.first (points_of ps c) in
     cc
 
 -- Areas: the sum of the contours before the point `from`.

@@ -1,10 +1,27 @@
 -- A list of contours that lie one after another in a row of points.
-use Rattle.std.specs.Prelude.{◌≡◌, ℕ, ◌+◌, ◌<◌, Bool, List, [], ◌∷◌, ◌++◌, map, length, take, drop, ℤ}
+use Rattle.std.specs.Prelude.{◌≡◌, ℕ, ◌+◌, ◌<◌, ◌≤◌, Bool, List, [], ◌∷◌, ◌++◌, map, length, take, drop, ℤ, unsigned_abs}
 use Rattle.std.specs.List.{between}
 use Rattle.outline.specs.declared.contours.Contour.{Contour}
 use Rattle.outline.specs.declared.points.DrawnPoint.{DrawnPoint}
 use Rattle.outline.specs.declared.points.Point.{Point}
 use Rattle.analysis.specs.Records.{analysed, shifted}
+
+-- a point whose two numbers lie within ±16,383
+abbrev pub Small : DrawnPoint → Type 0
+Small p = (unsigned_abs p.x ≤ 16383) × (unsigned_abs p.y ≤ 16383)
+
+-- the contours of a glyph, each a list of points
+abbrev pub Contours : Type 0
+Contours = List (List DrawnPoint)
+
+-- how many points they have together
+abbrev pub point_count : Contours → ℕ
+point_count [] = 0
+point_count (c ∷ cs) = length c + point_count cs
+
+-- the index of the first point of contour k: as many as the contours before it have points
+abbrev pub first_of : Contours → ℕ → ℕ
+first_of cs k = point_count (take k cs)
 
 -- the contours have at least one point each, and lie one after another from point b up to point n
 abbrev pub Tiles : ℕ → ℕ → List Contour → Type 0

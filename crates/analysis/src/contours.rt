@@ -13,8 +13,9 @@ use walk::{Leg, Mark, compute_directions};
 fn clear_marks(marks: &mut [Mark])
     ensures { marks.new ≡ replicate (length marks.old) blank }
 {
+    let blank = Mark::blank();
     for i in 0..marks.len() {
-        marks[i] = Mark::blank();
+        marks[i] = blank;
     }
 }
 

@@ -11,5 +11,5 @@ mod verdicts;
 
 pub use areas::compute_orientation;
 pub use contours::analyze_contour;
-pub use outlines::analyze_outline;
+pub use outlines::{analyze_outline, analyze_span};
 pub use walk::{Leg, Mark};

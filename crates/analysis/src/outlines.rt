@@ -7,8 +7,8 @@ use crate::contours::analyze_contour;
 use outline::{Contour, CornerRule, DrawnPoint, Point, Settings};
 use walk::{Leg, Mark};
 
-// Writes the records of one contour at its place among the outline's.
-fn analyze_span<R: CornerRule>(
+// Writes the records of one contour at its place among the outline's; `legs` and `marks` are working room.
+pub fn analyze_span<R: CornerRule>(
     rule: &R,
     settings: &Settings,
     points: &[DrawnPoint],

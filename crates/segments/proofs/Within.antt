@@ -94,7 +94,7 @@ each_segment : (P : Segment → Type 0) (units : ℕ) (n : ℕ) → ((s : Stretc
 each_segment P units n f [] h = tt
 each_segment P units n f (s ∷ ss) h = (f s h.0, each_segment P units n f ss h.1)
 
-segments_in : (dim : Dimension) (units : ℕ) (ps : List Point) → AllByRecursion (λ s. (s.first < length ps) × (s.last < length ps)) (segments_of dim units ps)
+pub segments_in : (dim : Dimension) (units : ℕ) (ps : List Point) → AllByRecursion (λ s. (s.first < length ps) × (s.last < length ps)) (segments_of dim units ps)
 unfolding segments_of
 segments_in dim units ps =
     let n : length (map (seen dim) ps) ≡ length ps = length-map ps (seen dim) in
@@ -102,7 +102,7 @@ segments_in dim units ps =
     (λ s h. (omega (arith, h.first), omega (arith, h.last)))
     (stretches_of (course_of dim (map (seen dim) ps))) (course_in dim (map (seen dim) ps))
 
-segments_unlinked : (dim : Dimension) (units : ℕ) (ps : List Point) → AllByRecursion Unlinked (segments_of dim units ps)
+pub segments_unlinked : (dim : Dimension) (units : ℕ) (ps : List Point) → AllByRecursion Unlinked (segments_of dim units ps)
 unfolding segments_of
 segments_unlinked dim units ps =
     each_segment Unlinked units (length (map (seen dim) ps))

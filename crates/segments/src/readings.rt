@@ -21,8 +21,10 @@ fn blank_from(table: &mut [Segment], from: usize)
     ensures { table.new ≡ take from table.old ++ blanks (length table.old - from) }
 {
     let n = table.len();
+    // made once: a blank made at each entry is stored and loaded again, which is slow
+    let blank = Segment::blank();
     for i in from..n {
-        table[i] = Segment::blank();
+        table[i] = blank;
     }
 }
 

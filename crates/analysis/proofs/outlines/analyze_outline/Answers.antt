@@ -1,5 +1,6 @@
 use Rattle.std.proofs.Common.{arith}
-use Rattle.analysis.proofs.Tilings.{turn, written_none, written_more, written_all, stand_alone}
+use Rattle.analysis.proofs.Standing.{stand_alone}
+use Rattle.analysis.proofs.Tilings.{turn, written_none, written_more, written_all}
 use Rattle.analysis.proofs.outlines.analyze_outline.Goals as goal
 
 pub loop-contour-init : goal.loop-contour-init

@@ -11,4 +11,4 @@ mod words;
 pub use faults::CardFault;
 pub use rows::card_line;
 pub use stems::stem_count;
-pub use texts::{card_into, card_text, refused_text};
+pub use texts::{card_into, card_text, refused_into, refused_text};

@@ -102,3 +102,13 @@ pub fn refused_text(heap: Global, number: u8) -> Result<String, AllocError>
 {
     String::from_str(heap, count_line("refused", u64::from(number)).as_str())
 }
+
+// The same in place of what a string holds. With room for 96 bytes it never fails.
+pub fn refused_into(room: String, number: u8) -> Result<String, AllocError>
+    ensures { MatchResult result (λ s. string_bytes s ≡ line_of (refused_words number)) (λ _. string_capacity room < 96) }
+{
+    let mut out = room;
+    out.clear();
+    push_line(&mut out, &count_line("refused", u64::from(number)))?;
+    Ok(out)
+}

@@ -3,7 +3,7 @@
 
 #[cfg(test)]
 mod tests {
-    use card::{card_line, card_text, refused_text, stem_count};
+    use card::{card_line, card_text, refused_into, refused_text, stem_count};
     use outline::{Direction, Orientation};
     use segments::{Coordinate, Dimension, Position, Segment};
     use std::test::Fail;
@@ -79,6 +79,13 @@ mod tests {
     #[test]
     fn shows_a_refusal(rt: HostRuntime) -> Result<(), Fail> {
         assert!(rt; refused_text(rt.alloc(), 17)?.as_str() == "refused 17\n");
+        Ok(())
+    }
+
+    #[test]
+    fn shows_a_refusal_in_room(rt: HostRuntime) -> Result<(), Fail> {
+        let room = String::new(rt.alloc());
+        assert!(rt; refused_into(room, 17)?.as_str() == "refused 17\n");
         Ok(())
     }
 

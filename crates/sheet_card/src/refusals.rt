@@ -1,0 +1,53 @@
+// Why a record has no card.
+ghost use Rattle.std.specs.Prelude.{◌≡◌};
+ghost use Rattle.sheet_card.specs.Refusals.{number};
+ghost use Rattle.sheet_card.specs.declared.refusals.Refusal.TheVariants.{Record as OfRecord, Edit as OfEdit, Read as OfRead};
+
+use drawing::EditFault;
+use reading::ReadFault;
+use unscaled::RecordFault;
+
+// The first check that fails: of the record, of placing its points, of reading its segments.
+#[derive(Clone, Copy)]
+pub enum Refusal {
+    Record(RecordFault),
+    Edit(EditFault),
+    Read(ReadFault),
+}
+
+impl Refusal {
+    // The number that is printed.
+    pub fn number(&self) -> u8
+        ensures { result ≡ number self.now }
+    {
+        match self {
+            Refusal::Record(fault) => fault.number(),
+            Refusal::Edit(fault) => fault.number(),
+            Refusal::Read(fault) => fault.number(),
+        }
+    }
+}
+
+impl From<RecordFault> for Refusal {
+    ghost from_gives = { λ fault r. r ≡ OfRecord fault };
+
+    fn from(fault: RecordFault) -> Refusal {
+        Refusal::Record(fault)
+    }
+}
+
+impl From<EditFault> for Refusal {
+    ghost from_gives = { λ fault r. r ≡ OfEdit fault };
+
+    fn from(fault: EditFault) -> Refusal {
+        Refusal::Edit(fault)
+    }
+}
+
+impl From<ReadFault> for Refusal {
+    ghost from_gives = { λ fault r. r ≡ OfRead fault };
+
+    fn from(fault: ReadFault) -> Refusal {
+        Refusal::Read(fault)
+    }
+}

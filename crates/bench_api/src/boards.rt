@@ -1,9 +1,9 @@
 // A sheet with the table that it is read into: both are made once and used again.
 use crate::digests::Digest;
 use crate::exports::Move;
+use editing::Sheet;
 use outline::{CornerRule, Settings};
 use segments::{Dimension, Segment, TABLE_LEN};
-use editing::Sheet;
 use std::alloc::{AllocError, Global};
 use unscaled::RecordPoints;
 

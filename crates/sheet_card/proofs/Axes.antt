@@ -1,7 +1,5 @@
 -- A reading's answer is what the rules give the sheet's contours.
-use Rattle.std.proofs.Common.{◌≡◌, ℕ, Bool, true, false, cond, ltb, List, [], ◌++◌, length, take, ℤ, Ok, Err, Result, sym, refl, ap, ◌∙◌, arith}
-use lib.Seq.{take-append_seam}
-use Rattle.outline.specs.declared.units.Settings.{Settings}
+use Rattle.std.proofs.Common.{◌≡◌, ℕ, Bool, true, false, cond, ltb, List, [], length, take, ℤ, Ok, Err, Result, sym, ap, ◌∙◌, arith}
 use Rattle.unscaled.specs.Entries.{Entry}
 use Rattle.analysis.specs.Outlines.{Contours}
 use Rattle.segments.specs.declared.faults.BuildFault.TheVariants.{TooManySegments}

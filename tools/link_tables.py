@@ -2,7 +2,7 @@
 """Seeded tables of segments, to compare `linktables` with the original's linking.
 
   link_tables.py SEED COUNT FAMILY > tables
-  target/bin/linktables < tables > own
+  crates/linktables/out/linktables < tables > own
   OUT/original --link < tables > its        (docs/VECTORS.md says how OUT/original is built)
 
 A line is the units, the width, the major direction, and for each entry its direction, position, least

@@ -16,7 +16,7 @@ cp "$skrifa/outline/unscaled.rs" "$build/outline/"
 cp "$skrifa/outline/autohint/outline.rs" "$build/outline/autohint/"
 cp "$skrifa/outline/autohint/topo/mod.rs" "$skrifa/outline/autohint/topo/segments.rs" "$build/outline/autohint/topo/"
 cp "$here/edges.rs" "$build/outline/autohint/topo/"
-cp "$here/main.rs" "$here/read_fonts.rs" "$build/"
+cp "$here/main.rs" "$here/original.rs" "$here/read_fonts.rs" "$build/"
 cd "$build"
 rustc --edition 2018 -C opt-level=3 --cap-lints allow --cfg 'feature="const_generics"' \
   --crate-type rlib --crate-name smallvec "$smallvec/lib.rs" -o libsmallvec.rlib

@@ -1,11 +1,11 @@
 #!/bin/sh
 # usage: tools/robust.sh
-# Runs target/bin/stemcard under adverse conditions, and prints a table line for each (docs/ROBUST.md). Ends with status 1
+# Runs crates/stemcard/out/stemcard under adverse conditions, and prints a table line for each (docs/ROBUST.md). Ends with status 1
 # if a line is not ok.
 root=$(cd "$(dirname "$0")/.." && pwd)
-program=$root/target/bin/stemcard
+program=$root/crates/stemcard/out/stemcard
 record=$root/examples/letter_d.record
-[ -x "$program" ] || { echo "robust.sh: first rt check stemcard" >&2; exit 2; }
+[ -x "$program" ] || { echo "robust.sh: first ./stemcard examples/letter_d.record" >&2; exit 2; }
 work=$(mktemp -d)
 trap 'rm -rf "$work"' EXIT
 bad=0

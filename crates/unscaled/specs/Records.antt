@@ -1,8 +1,7 @@
 -- The bytes of a drawing record, high bytes first: version, two of length (of all that follows), two of units,
 -- two of width, corner code; then the points, each two bytes of x, two of y, one of kind.
 use Rattle.std.specs.Prelude.{ℕ, ◌+◌, ◌*◌, ◌%◌, cond, not, ◌||◌, List, [], ◌∷◌, length, drop, ℤ, Ok, Err, Result, ◌==◌, nat_le, nat_lt, slice_index}
-use Rattle.std.proofs.Common.{to_z}
-use Rattle.std.specs.Int.{w16}
+use Rattle.std.specs.Int.{w16, cast_signed}
 use Rattle.outline.specs.declared.points.PointKind.TheVariants.{Control, OnCurve}
 use Rattle.outline.specs.declared.units.checks.SettingsFault.TheVariants.{Units, Width}
 use Rattle.unscaled.specs.declared.faults.FaultReason.TheVariants.{UnknownKind}
@@ -54,7 +53,7 @@ header bs =
 
 -- a signed number of two bytes, two's complement
 abbrev pub signed : ℕ → ℕ → ℤ
-signed high low = to_z w16 (high * 256 + low)
+signed high low = cast_signed w16 (high * 256 + low)
 
 -- the entry that five bytes make; the kind is 1 on the curve, plus 2 for a contour start
 abbrev pub entry_of : ℕ → ℕ → ℕ → ℕ → ℕ → ℕ → Entry

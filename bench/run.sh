@@ -8,8 +8,9 @@ root=$(dirname "$here")
 skrifa=$(cd "$1" && pwd)
 smallvec=$(cd "$2" && pwd)
 file=${3:+$(realpath "$3")}
-kit=$(dirname "$(dirname "$(rt doc)")")
-(cd "$root" && rt staticlib bench_api > target/bench-build.log 2>&1) || { tail "$root/target/bench-build.log"; exit 1; }
+kit=$(dirname "$(rt doc)")
+mkdir -p "$root/target"
+(cd "$root/crates/bench_api" && rt lib > "$root/target/bench-build.log" 2>&1) || { tail "$root/target/bench-build.log"; exit 1; }
 build=$root/target/bench
 rm -rf "$build"
 # where rustc looks for the files that inline modules name by #[path]
@@ -27,7 +28,7 @@ cp "$root/tools/rust/original.rs" "$root/tools/rust/read_fonts.rs" "$here"/*.rs 
     # as Cargo builds a release; debug info changes no code, and lets a profiler tell names
     rustc --edition 2021 -C opt-level=3 -g --cap-lints allow main.rs \
         --extern raw=libread_fonts.rlib --extern read_fonts=libread_fonts.rlib --extern smallvec=libsmallvec.rlib \
-        -L "$root/target/staticlib" -l static=bench_api -C link-arg="$kit/lib/librattle_c.a" -o bench
+        -L "$root/crates/bench_api/out" -l static=bench_api -C link-arg="$kit/c/libos_c.a" -C link-arg="$kit/c/liblibc_c.a" -o bench
 )
 cd "$root"
 exec target/bench/bench crates/replay/stdin ${file:+"$file"}

@@ -58,6 +58,6 @@ line Down = 2
 abbrev pub SameAxis : Direction → Direction → Type 0
 SameAxis d e = line d ≡ line e
 
--- the test of Same-axis
+-- the test of SameAxis
 abbrev pub same_axis : Direction → Direction → Bool
 same_axis d e = line d == line e

@@ -33,7 +33,7 @@ use Rattle.reading.specs.Readings.{axis_rule, answer, built_table, read_table, t
 abbrev bare : Segment → Segment
 bare s = holding s 32000 None None
 
--- as own-segments, of all entries
+-- as own_segments, of all entries
 abbrev own : ℕ → ℕ → List Segment → List Segment
 own f e xs = map (counted_from f) (filter (begins_in f e) xs)
 

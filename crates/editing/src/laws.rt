@@ -6,10 +6,8 @@ ghost use Rattle.editing.specs.declared.sheets.Sheet.{Sheet};
 
 use outline::CornerRule;
 
-pub fn laws_stand<R: CornerRule, Q: CornerRule>() -> u8
+pub fn laws_stand<R: CornerRule, Q: CornerRule>()
     ensures history { (s : Sheet R) → Fresh R.CornerRule.flat s → History R.CornerRule.flat Q.CornerRule.flat s }
     ensures stems { (s : Sheet R) → Fresh R.CornerRule.flat s → LinksMutual R.CornerRule.flat s }
     ensures alone { (s : Sheet R) → Fresh R.CornerRule.flat s → ContoursAlone R.CornerRule.flat Q.CornerRule.flat s }
-{
-    0
-}
+{}

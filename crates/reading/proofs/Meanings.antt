@@ -1,17 +1,14 @@
 -- Two corner rules by which each contour has the same records give the same readings.
-use Rattle.std.proofs.Common.{◌≡◌, ℕ, ◌+◌, ◌≤◌, Bool, cond, ◌||◌, ltb, List, [], ◌∷◌, ◌++◌, map, length, ℤ, sym, refl, ap, ◌∙◌, arith}
+use Rattle.std.proofs.Common.{◌≡◌, ℕ, ◌+◌, Bool, ◌||◌, ltb, List, [], ◌∷◌, ◌++◌, map, length, ℤ, refl, ap, ◌∙◌}
 use Rattle.std.specs.List.{AllByRecursion}
-use Rattle.std.proofs.lemmas.Bool.{le-ltb, cond-false}
 use Rattle.outline.specs.declared.points.Point.{Point}
 use Rattle.outline.specs.Units.{near_limit}
 use Rattle.analysis.specs.Outlines.{Contours}
 use Rattle.analysis.specs.Records.{analysed}
 use Rattle.segments.specs.declared.measures.Dimension.{Dimension}
 use Rattle.segments.specs.declared.tables.Segment.{Segment}
-use Rattle.segments.specs.Readings.{blanks}
 use Rattle.segments.specs.Stretches.{segments_of, most_of, shifted}
 use Rattle.reading.specs.Drawn.{contour_segments, drawn_segments, crowded}
-use Rattle.reading.specs.Readings.{answer, read_table, table_after}
 
 -- each contour has the same records by F and by G
 abbrev pub SameRecords : (ℤ → ℤ → ℤ → ℤ → Bool) → (ℤ → ℤ → ℤ → ℤ → Bool) → ℕ → Contours → Type 0
@@ -38,21 +35,3 @@ module _ (F G : ℤ → ℤ → ℤ → ℤ → Bool) (dim : Dimension) (units :
       let held = ap (λ (rs : List Point). h + length (segments_of dim units rs)) same.0 in
       crowds_more dim h (analysed F (near_limit units) 0 c) (analysed G (near_limit units) 0 c) _ _ same.0
       (ap (λ (k : ℕ). crowded F dim units k cs) held ∙ crowded-same (h + length (contour_segments G dim units c)) cs same.1)
-
-  pub answer-same : (cs : Contours) (size : ℕ) → SameRecords F G units cs → answer F units dim cs size ≡ answer G units dim cs size
-  answer-same cs size same = rw (crowded-same 0 cs same, drawn_segments-same 0 cs same)
-
-  pub table_same : (width : ℕ) (cs : Contours) (t : List Segment) → SameRecords F G units cs → table_after F units width dim cs t ≡ table_after G units width dim cs t
-  table_same width cs t same = rw (crowded-same 0 cs same, drawn_segments-same 0 cs same)
-
--- what a table that is long enough held before does not matter
-module _ (F : ℤ → ℤ → ℤ → ℤ → Bool) (units width : ℕ) (dim : Dimension) (cs : Contours) where
-  -- what is left in a table of so many entries, which are enough
-  abbrev left_in : ℕ → List Segment
-  left_in size = cond (crowded F dim units 0 cs) (blanks size) (read_table F units width dim cs size)
-
-  table_long : (t : List Segment) → 1001 ≤ length t → table_after F units width dim cs t ≡ left_in (length t)
-  table_long t long = cond-false (ltb (length t) 1001) t (left_in (length t)) (le-ltb (length t) 1001 long)
-
-  pub table_anew : (t u : List Segment) → length t ≡ length u → 1001 ≤ length t → table_after F units width dim cs t ≡ table_after F units width dim cs u
-  table_anew t u e long = table_long t long ∙ ap left_in e ∙ sym (table_long u (omega arith))

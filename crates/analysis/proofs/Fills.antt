@@ -1,6 +1,5 @@
 -- Records and how they are written.
-use Rattle.std.proofs.Common.{◌≡◌, ℕ, ◌+◌, ◌<◌, Bool, List, [], ◌∷◌, map, length, get_or, replicate, ℤ, sym, refl, ◌∙◌, zero-add, arith}
-use Rattle.std.proofs.lemmas.List.{ext_get_or, get_or-replicate, length-replicate}
+use Rattle.std.proofs.Common.{◌≡◌, ℕ, ◌+◌, Bool, List, [], ◌∷◌, map, length, get_or, replicate, ℤ, refl, zero-add}
 use Rattle.outline.specs.declared.points.DrawnPoint.{DrawnPoint}
 use Rattle.walk.specs.declared.marks.Mark.{Mark}
 use Rattle.outline.specs.declared.points.Point.{Point}
@@ -9,10 +8,9 @@ use Rattle.walk.specs.Steps.{origin, following}
 use Rattle.walk.specs.Marks.{blank, walked}
 use Rattle.analysis.specs.Passes.{simplified, checked}
 
-pub filled : {X : Type 0} (d : X) (xs : List X) (n : ℕ) → length xs ≡ n → ((k : ℕ) → k < n → get_or xs k d ≡ d) → xs ≡ replicate n d
-filled d xs n e h =
-    ext_get_or d xs (replicate n d) (e ∙ sym (length-replicate n d))
-    (λ i in'. let lt : i < n = omega arith in h i lt ∙ sym (get_or-replicate n i d d lt))
+-- marks that are filled with what a mark is by default
+pub cleared : (n m : ℕ) (d : Mark) (xs : List Mark) → xs ≡ replicate m d → m ≡ n → d ≡ blank → xs ≡ replicate n blank
+cleared n m d xs a b e = cc
 
 shift_one : (N b : ℕ) (ps : List DrawnPoint) (ms : List Mark) (i : ℕ) → record_at N b ps ms i ≡ shifted b (record_at N 0 ps ms i)
 unfolding record_at

@@ -3,7 +3,6 @@ pub mod Fills
 pub mod Links
 pub mod Products
 pub mod Turns
-pub mod Ranges
 pub mod Tilings
 pub mod Standing
 pub mod Meanings

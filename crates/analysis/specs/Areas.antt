@@ -4,7 +4,6 @@ use Rattle.outline.specs.declared.orientations.Orientation.{Orientation}
 use Rattle.outline.specs.declared.orientations.Orientation.TheVariants.{Clockwise, CounterClockwise}
 use Rattle.outline.specs.declared.points.DrawnPoint.{DrawnPoint}
 use Rattle.walk.specs.Steps.{origin}
-use Rattle.analysis.specs.declared.areas.Area.{Area}
 
 -- (y - y') (x + x'), for a point x, y and its predecessor x', y'
 abbrev pub term : ℤ → ℤ → ℤ → ℤ → ℤ
@@ -31,11 +30,3 @@ total_area (ps ∷ cs) = contour_area ps +ℤ total_area cs
 -- counter-clockwise (y upwards) where the sum is positive, clockwise where it is negative
 abbrev pub orientation_of : ℤ → Option Orientation
 orientation_of a = cond (int_lt (pos 0) a) (Some CounterClockwise) (cond (int_lt a (pos 0)) (Some Clockwise) None)
-
--- a sum that enters a contour has come to its last point
-abbrev pub entered : Area → List DrawnPoint → Area
-entered a ps = record { sum = a.sum; x = (last_of ps).x; y = (last_of ps).y }
-
--- and takes in the next
-abbrev pub turned : Area → DrawnPoint → Area
-turned a p = record { sum = a.sum +ℤ term a.x a.y p.x p.y; x = p.x; y = p.y }

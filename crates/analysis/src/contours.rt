@@ -4,22 +4,18 @@ ghost use Rattle.outline.specs.Units.{near_limit};
 ghost use Rattle.walk.specs.Marks.{blank};
 ghost use Rattle.analysis.specs.Records.{analysed, shifted};
 
-use crate::records::write_records;
-use crate::topology::simplify_topology;
-use crate::verdicts::check_remaining_weak_points;
+use crate::chains::Chain;
 use outline::{CornerRule, DrawnPoint, Point, Settings};
 use walk::{Leg, Mark, compute_directions};
 
 fn clear_marks(marks: &mut [Mark])
     ensures { marks.new ≡ replicate (length marks.old) blank }
 {
-    let blank = Mark::blank();
-    for i in 0..marks.len() {
-        marks[i] = blank;
-    }
+    marks.fill(Mark::default());
 }
 
-// The records of one contour, whose first point has the index `base` in the outline; `legs` and `marks` are working room.
+// The records of one contour, whose first point has the index `base` in the outline.
+// `legs` and `marks` are working room for as many points or more: lent, since the analysis takes no memory.
 pub fn analyze_contour<R: CornerRule>(
     rule: &R,
     settings: &Settings,
@@ -30,13 +26,16 @@ pub fn analyze_contour<R: CornerRule>(
     out: &mut [Point],
 )
     requires points_nonzero { (0 < length points.now) × (base + length points.now ≤ 2048) }
-    requires legs_len { (length legs.old ≡ length points.now) × ((length marks.old ≡ length points.now) × (length out.old ≡ length points.now)) }
+    requires legs_len { (length points.now ≤ length legs.old) × ((length points.now ≤ length marks.old) × (length out.old ≡ length points.now)) }
     ensures value { out.new ≡ analysed (R.flat rule.now) (near_limit settings.now.units) base points.now }
     ensures alone { out.new ≡ map (shifted base) (analysed (R.flat rule.now) (near_limit settings.now.units) 0 points.now) }
 {
+    let n = points.len();
+    let marks = &mut marks[..n];
     clear_marks(marks);
-    compute_directions(settings, points, legs, marks);
-    simplify_topology(points, marks);
-    check_remaining_weak_points(rule, points, marks);
-    write_records(settings.near_limit(), base, points, marks, out);
+    compute_directions(settings, points, &mut legs[..n], marks);
+    let mut chain = Chain { points, marks };
+    chain.simplify_topology();
+    chain.check_remaining_weak_points(rule);
+    chain.write_records(settings.near_limit(), base, out);
 }

@@ -3,6 +3,7 @@
 
 mod areas;
 mod bends;
+mod chains;
 mod contours;
 mod outlines;
 mod records;

@@ -1,10 +1,10 @@
 // The first pass: points that lie on the way between their neighbours turn weak.
-ghost use Rattle.std.specs.Prelude.{◌≡◌, ◌<◌, length};
-ghost use Rattle.std.specs.List.{AllByRecursion};
-ghost use Rattle.analysis.specs.Passes.{Linked, same_sign, same_quadrant, is_open, is_straight, simplified_at, simplified};
+ghost use Rattle.std.specs.Prelude.{◌≡◌, ◌<◌, length, slice_index_or};
+ghost use Rattle.walk.specs.Marks.{blank};
+ghost use Rattle.analysis.specs.Passes.{same_sign, same_quadrant, is_open, is_straight, simplified_at, simplified};
 
-use crate::bends::{bypass_point, is_undirected, vectors};
-use outline::DrawnPoint;
+use crate::bends::is_undirected;
+use crate::chains::Chain;
 use walk::{Mark, Step};
 
 // Both negative, or both not.
@@ -26,35 +26,37 @@ fn is_open(mark: Mark) -> bool
     !mark.weak && is_undirected(mark)
 }
 
-// Whether the point lies on the way from its point v to its point u.
-fn is_straight(points: &[DrawnPoint], i: usize, mark: Mark) -> bool
-    requires { (i < length points.now) × (Linked (length points.now) mark) }
-    ensures { result ≡ is_straight points.now i mark }
-{
-    if is_open(mark) {
-        let (came, goes) = vectors(points, i, mark);
-        same_quadrant(came, goes)
-    } else {
-        false
+impl Chain<'_> {
+    // Whether point `i` lies on the way from its point v to its point u.
+    fn is_straight(&self, i: usize) -> bool
+        requires { i < length self.now.points.now }
+        ensures { result ≡ is_straight self.now.points.now i (slice_index_or self.now.marks.now i blank) }
+    {
+        if is_open(self.marks[i]) {
+            let (came, goes) = self.vectors(i);
+            same_quadrant(came, goes)
+        } else {
+            false
+        }
     }
-}
 
-fn simplify_at(points: &[DrawnPoint], i: usize, marks: &mut [Mark])
-    requires { (i < length points.now) × ((length marks.old ≡ length points.now) × (AllByRecursion (Linked (length points.now)) marks.old)) }
-    ensures { marks.new ≡ simplified_at points.now i marks.old }
-{
-    let mark = marks[i];
-    if is_straight(points, i, mark) {
-        bypass_point(marks, i, mark);
+    fn simplify_at(&mut self, i: usize)
+        requires { i < length self.old.points.now }
+        ensures marks { self.new.marks.now ≡ simplified_at self.old.points.now i self.old.marks.now }
+        ensures points { self.new.points.now ≡ self.old.points.now }
+    {
+        if self.is_straight(i) {
+            self.bypass(i);
+        }
     }
-}
 
-pub fn simplify_topology(points: &[DrawnPoint], marks: &mut [Mark])
-    requires { (length marks.old ≡ length points.now) × (AllByRecursion (Linked (length points.now)) marks.old) }
-    ensures after { marks.new ≡ simplified points.now marks.old }
-    ensures linked { AllByRecursion (Linked (length points.now)) marks.new }
-{
-    for i in 0..points.len() {
-        simplify_at(points, i, marks);
+    pub fn simplify_topology(&mut self)
+        ensures marks { self.new.marks.now ≡ simplified self.old.points.now self.old.marks.now }
+        ensures points { self.new.points.now ≡ self.old.points.now }
+    {
+        // by index: a step writes the marks of a point's neighbours too
+        for i in 0..self.points.len() {
+            self.simplify_at(i);
+        }
     }
 }

@@ -1,5 +1,5 @@
-// A digest of all that a sheet tells, so that two programs can be seen to find the same.
-use outline::{Direction, Orientation, Point, PointKind};
+// A digest of all that a sheet tells, so that two programs can be seen to find the same. Variants count in their order.
+use outline::{Orientation, Point};
 use segments::Segment;
 
 // FNV-1a, but a number at a time.
@@ -12,23 +12,6 @@ const NO_INDEX: u64 = 65536;
 
 #[derive(Clone, Copy)]
 pub struct Digest(u64);
-
-fn direction_code(dir: Direction) -> u64 {
-    match dir {
-        Direction::None => 0,
-        Direction::Right => 1,
-        Direction::Left => 2,
-        Direction::Up => 3,
-        Direction::Down => 4,
-    }
-}
-
-fn index_code(index: Option<u16>) -> u64 {
-    match index {
-        Some(i) => i as u64,
-        None => NO_INDEX,
-    }
-}
 
 impl Digest {
     pub fn new() -> Digest {
@@ -47,40 +30,37 @@ impl Digest {
         self.number((value as i32 + 32768) as u64)
     }
 
-    pub fn orientation(self, way: Option<Orientation>) -> Digest {
-        self.number(match way {
-            None => 0,
-            Some(Orientation::Clockwise) => 1,
-            Some(Orientation::CounterClockwise) => 2,
-        })
+    fn index(self, index: Option<u16>) -> Digest {
+        self.number(index.map_or(NO_INDEX, |i| i as u64))
     }
 
-    pub fn point(self, point: Point) -> Digest {
-        let kind = match point.flags.kind {
-            PointKind::OnCurve => 1,
-            PointKind::Control => 0,
-        };
+    // None counts as 0.
+    pub fn orientation(self, way: Option<Orientation>) -> Digest {
+        self.number(way.map_or(0, |way| way as u64 + 1))
+    }
+
+    pub fn point(self, point: &Point) -> Digest {
         self.signed(point.x)
             .signed(point.y)
-            .number(kind)
+            .number(point.flags.kind as u64)
             .number(point.flags.near as u64)
             .number(point.flags.weak_interpolation as u64)
-            .number(direction_code(point.in_dir))
-            .number(direction_code(point.out_dir))
+            .number(point.in_dir as u64)
+            .number(point.out_dir as u64)
             .number(point.next_ix as u64)
             .number(point.prev_ix as u64)
     }
 
-    pub fn segment(self, segment: Segment) -> Digest {
-        self.number(direction_code(segment.dir))
+    pub fn segment(self, segment: &Segment) -> Digest {
+        self.number(segment.dir as u64)
             .signed(segment.pos.0)
             .signed(segment.delta)
             .signed(segment.min_coord.0)
             .signed(segment.max_coord.0)
             .number(segment.round as u64)
             .number(segment.score as u64)
-            .number(index_code(segment.link))
-            .number(index_code(segment.serif))
+            .index(segment.link)
+            .index(segment.serif)
             .number(segment.first as u64)
             .number(segment.last as u64)
     }

@@ -1,49 +1,58 @@
 -- Lines whose words are added one after another.
-use Rattle.std.proofs.Common.{◌≡◌, ℕ, List, [], ◌∷◌, ◌++◌, sym, refl, ap, ◌∙◌}
-use Rattle.std.proofs.lemmas.List.{append_assoc, append-nil}
+use Rattle.std.proofs.Common.{◌≡◌, refl, ℕ, ◌+◌, ◌<◌, ◌≤◌, List, [], ◌∷◌, ◌++◌, length, map, get_or, take, sym, ap, ◌∙◌, arith}
+use Rattle.std.proofs.lemmas.List.{append_assoc, flat_map_more, length-append, take_all, take_more}
+use Rattle.std.proofs.lemmas.List.Folds.{flat_map-map, length-flat_map-take}
+use Rattle.std.specs.List.{flat_map}
 use Rattle.card.specs.Lines.{line_of, spaced}
 
-abbrev pub after : List ℕ → List (List ℕ) → List ℕ
-after t [] = t
-after t (w ∷ ws) = after (t ++ 32 ∷ w) ws
+-- the first word, and the others after a space each
+abbrev pub words_after : {X : Type 0} → (X → List ℕ) → List ℕ → List X → List ℕ
+words_after f w xs = w ++ flat_map (λ x. 32 ∷ f x) xs
 
-pub spaced-after : (t : List ℕ) (ws : List (List ℕ)) → after t ws ≡ t ++ spaced ws
-spaced-after t [] = sym (append-nil t)
-spaced-after t (w ∷ ws) = spaced-after (t ++ 32 ∷ w) ws ∙ append_assoc t (32 ∷ w) (spaced ws)
+-- each word takes its length, and one for the space or the newline after it
+abbrev pub size : List (List ℕ) → ℕ
+size [] = 0
+size (w ∷ ws) = length w + 1 + size ws
 
-pub spaced-append : (vs ws : List (List ℕ)) → spaced (vs ++ ws) ≡ spaced vs ++ spaced ws
-spaced-append [] ws = refl
-spaced-append (v ∷ vs) ws = ap (λ (t : List ℕ). (32 ∷ v) ++ t) (spaced-append vs ws) ∙ sym (append_assoc (32 ∷ v) (spaced vs) (spaced ws))
+spaced_size : (ws : List (List ℕ)) → length (spaced ws) ≡ size ws
+spaced_size [] = refl
+spaced_size (w ∷ ws) = omega (arith, length-append (32 ∷ w) (spaced ws), spaced_size ws)
 
--- a line of a first word t and the words ws
-pub line-ends : (w : List ℕ) (ws : List (List ℕ)) (t line : List ℕ) → t ≡ w ++ spaced ws → line ≡ t ++ 10 ∷ [] → line ≡ line_of (w ∷ ws)
+pub line_size : (w : List ℕ) (ws : List (List ℕ)) → length (line_of (w ∷ ws)) ≡ size (w ∷ ws)
 unfolding line_of
-line-ends w ws t line e k = cc
+line_size w ws = omega (arith, length-append (w ++ spaced ws) (10 ∷ []), length-append w (spaced ws), spaced_size ws)
 
--- the same, in three parts
-pub line_of-parts : (w : List ℕ) (us vs ws : List (List ℕ)) (t₀ t₁ t₂ t₃ line : List ℕ)
-    → t₀ ≡ [] → t₁ ≡ t₀ ++ w ++ spaced us → t₂ ≡ t₁ ++ spaced vs → t₃ ≡ t₂ ++ spaced ws → line ≡ t₃ ++ 10 ∷ []
-    → line ≡ line_of (w ∷ us ++ vs ++ ws)
-line_of-parts w us vs ws t₀ t₁ t₂ t₃ line e₀ e₁ e₂ e₃ k =
-    let p = spaced-append (us ++ vs) ws in
-    let q = spaced-append us vs in
-    let a = append_assoc w (spaced us) (spaced vs) in
-    let b = append_assoc w (spaced us ++ spaced vs) (spaced ws) in
-    line-ends w (us ++ vs ++ ws) t₃ line (cc) k
+module _ {X : Type 0} (f : X → List ℕ) (w : List ℕ) (xs : List X) where
+  line_ends : words_after f w xs ++ 10 ∷ [] ≡ line_of (w ∷ map f xs)
+  unfolding line_of
+  line_ends = ap (λ (t : List ℕ). w ++ t ++ 10 ∷ []) (sym (flat_map-map (λ v. 32 ∷ v) f xs))
 
--- a line of a first word and five words after it
-pub head_made : (w v₁ v₂ v₃ v₄ v₅ t₀ t₁ t₂ t₃ t₄ t₅ t₆ line : List ℕ)
-    → t₀ ≡ [] → t₁ ≡ t₀ ++ w
-    → t₂ ≡ t₁ ++ 32 ∷ v₁ → t₃ ≡ t₂ ++ 32 ∷ v₂ → t₄ ≡ t₃ ++ 32 ∷ v₃ → t₅ ≡ t₄ ++ 32 ∷ v₄ → t₆ ≡ t₅ ++ 32 ∷ v₅
-    → line ≡ t₆ ++ 10 ∷ []
-    → line ≡ line_of (w ∷ v₁ ∷ v₂ ∷ v₃ ∷ v₄ ∷ v₅ ∷ [])
-head_made w v₁ v₂ v₃ v₄ v₅ t₀ t₁ t₂ t₃ t₄ t₅ t₆ line e₀ e₁ e₂ e₃ e₄ e₅ e₆ k =
-    let ws = v₁ ∷ v₂ ∷ v₃ ∷ v₄ ∷ v₅ ∷ [] in
-    let e : t₆ ≡ after w ws = cc in
-    line-ends w ws t₆ line (e ∙ spaced-after w ws) k
+  pub line_length : length (line_of (w ∷ map f xs)) ≡ length w + length (flat_map (λ x. 32 ∷ f x) xs) + 1
+  line_length =
+      let a = ap length line_ends in
+      let b = length-append (words_after f w xs) (10 ∷ []) in
+      let c = length-append w (flat_map (λ x. 32 ∷ f x) xs) in
+      omega arith
 
--- a line of two words
-pub pair_made : (w v t₀ t₁ t₂ line : List ℕ) → t₀ ≡ [] → t₁ ≡ t₀ ++ w → t₂ ≡ t₁ ++ 32 ∷ v → line ≡ t₂ ++ 10 ∷ [] → line ≡ line_of (w ∷ v ∷ [])
-pair_made w v t₀ t₁ t₂ line e₀ e₁ e₂ k =
-    let e : t₂ ≡ after w (v ∷ []) = cc in
-    line-ends w (v ∷ []) t₂ line (e ∙ spaced-after w (v ∷ [])) k
+  -- one word more
+  pub word_more : (i : ℕ) (x : X) (t t₁ v t₂ : List ℕ) → i < length xs → x ≡ get_or xs i x → t ≡ words_after f w (take i xs)
+      → t₁ ≡ t ++ 32 ∷ [] → v ≡ f x → t₂ ≡ t₁ ++ v → t₂ ≡ words_after f w (take (i + 1) xs)
+  word_more i x t t₁ v t₂ l is e e₁ e₂ e₃ =
+      let a = append_assoc t (32 ∷ []) (f x) in
+      let b = append_assoc w (flat_map (λ x. 32 ∷ f x) (take i xs)) (32 ∷ f x) in
+      let m = flat_map_more (λ x. 32 ∷ f x) w (take i xs) (get_or xs i x) in
+      let n = ap (words_after f w) (take_more xs i x l) in
+      let k = ap f is in
+      cc
+
+  -- the next word has room where the line has
+  pub word_room : (i : ℕ) (d : X) → i < length xs → length (words_after f w (take i xs)) + length (f (get_or xs i d)) + 1 < length (line_of (w ∷ map f xs))
+  word_room i d l =
+      omega (arith, line_length, length-append w (flat_map (λ x. 32 ∷ f x) (take i xs)), length-flat_map-take (λ x. 32 ∷ f x) xs i d l)
+
+  -- no word is left
+  pub words_all : (i : ℕ) (t : List ℕ) → length xs ≤ i → t ≡ words_after f w (take i xs) → t ++ 10 ∷ [] ≡ line_of (w ∷ map f xs)
+  words_all i t g e = ap (λ (u : List ℕ). u ++ 10 ∷ []) (e ∙ ap (words_after f w) (take_all i xs g)) ∙ line_ends
+
+  pub words_length : (i : ℕ) (t : List ℕ) → length xs ≤ i → t ≡ words_after f w (take i xs) → length t + 1 ≡ length (line_of (w ∷ map f xs))
+  words_length i t g e = sym (length-append t (10 ∷ [])) ∙ ap length (words_all i t g e)

@@ -1,74 +1,55 @@
--- Sums and counts of the numbers below n.
-use Rattle.std.proofs.Common.{◌≡◌, ℕ, zero, suc, ◌+◌, ◌<◌, ◌≤◌, Bool, false, cond, sym, refl, ap, ◌∙◌, inl, inr, add-one, arith}
-use Rattle.std.proofs.lemmas.Bool.{cases_lt, cases_eq}
-use Rattle.card.specs.Stems.{sum_below, count_below}
+-- Sums over lists, and counts of indices.
+use Rattle.std.proofs.Common.{◌≡◌, ℕ, zero, suc, ◌+◌, ◌≤◌, Bool, false, cond, List, [], ◌∷◌, Some, None, Option, sym, refl, ap, inl, inr, arith}
+use Rattle.std.proofs.lemmas.Bool.{cases_eq, ne_eqb}
+use Rattle.std.proofs.lemmas.List.Sums.{sum_by-cons}
+use Rattle.std.specs.List.{count_by, range_with_len, sum_by}
+use Rattle.card.specs.Stems.{is_index}
+
+pub sum_plus : {X : Type 0} (f g : X → ℕ) (xs : List X) → sum_by f xs + sum_by g xs ≡ sum_by (λ x. f x + g x) xs
+sum_plus f g [] = refl
+sum_plus f g (x ∷ xs) = omega (arith, sum_by-cons f x xs, sum_by-cons g x xs, sum_by-cons (λ x. f x + g x) x xs, sum_plus f g xs)
+
+sum_zeros : {X : Type 0} (xs : List X) → sum_by (λ x. 0) xs ≡ 0
+sum_zeros [] = refl
+sum_zeros {X = X} (x ∷ xs) = omega (arith, sum_by-cons (λ (x : X). 0) x xs, sum_zeros xs)
+
+-- a table of numbers, summed by rows and by columns
+pub sum_swap : {X Y : Type 0} (f : X → Y → ℕ) (xs : List X) (ys : List Y)
+    → sum_by (λ x. sum_by (f x) ys) xs ≡ sum_by (λ y. sum_by (λ x. f x y) xs) ys
+sum_swap f [] ys = sym (sum_zeros ys)
+sum_swap f (x ∷ xs) ys =
+    let first : sum_by (λ y. sum_by (λ x. f x y) (x ∷ xs)) ys ≡ sum_by (λ y. f x y + sum_by (λ x. f x y) xs) ys =
+    λ k. sum_by (λ y. sum_by-cons (λ x. f x y) x xs k) ys in
+    omega (arith, sum_by-cons (λ x. sum_by (f x) ys) x xs, sum_swap f xs ys, sum_plus (f x) (λ y. sum_by (λ x. f x y) xs) ys, first)
 
 -- what a test adds to a count
 abbrev pub one : Bool → ℕ
 one b = cond b 1 0
 
-pub sum_none : (f : ℕ → ℕ) → sum_below 0 f ≡ 0
-unfolding sum_below
-sum_none f = refl
+count_none : (a n : ℕ) (p : ℕ → Bool) → ((k : ℕ) → a ≤ k → p k ≡ false) → count_by p (range_with_len a n) ≡ 0
+count_none a zero p h = refl
+count_none a (suc n) p h =
+    omega (arith, sum_by-cons (λ k. one (p k)) a (range_with_len (a + 1) n), ap one (h a (omega arith)), count_none (a + 1) n p (λ k l. h k (omega arith)))
 
-pub sum_more : (n : ℕ) (f : ℕ → ℕ) → sum_below (n + 1) f ≡ sum_below n f + f n
-unfolding sum_below
-sum_more n f = rw add-one refl
-
-pub sum_same : (n : ℕ) (f g : ℕ → ℕ) → ((k : ℕ) → k < n → f k ≡ g k) → sum_below n f ≡ sum_below n g
-unfolding sum_below
-sum_same zero f g h = refl
-sum_same (suc n) f g h =
-    let a = sum_same n f g (λ k l. h k (omega arith)) in
-    let b = h n (omega arith) in
-    omega arith
-
-pub sum_plus : (n : ℕ) (f g : ℕ → ℕ) → sum_below n f + sum_below n g ≡ sum_below n (λ k. f k + g k)
-unfolding sum_below
-sum_plus zero f g = refl
-sum_plus (suc n) f g = omega (arith, sum_plus n f g)
-
-pub sum_zeros : (n : ℕ) (f : ℕ → ℕ) → ((k : ℕ) → k < n → f k ≡ 0) → sum_below n f ≡ 0
-unfolding sum_below
-sum_zeros zero f h = refl
-sum_zeros (suc n) f h =
-    let a = sum_zeros n f (λ k l. h k (omega arith)) in
-    let b = h n (omega arith) in
-    omega arith
-
--- a table of numbers, summed by rows and by columns
-pub sum_swap : (n m : ℕ) (f : ℕ → ℕ → ℕ) → sum_below n (λ i. sum_below m (f i)) ≡ sum_below m (λ j. sum_below n (λ i. f i j))
-unfolding sum_below
-sum_swap zero m f = sym (sum_zeros m (λ j. 0) (λ k l. refl))
-sum_swap (suc n) m f =
-    let a = sum_swap n m f in
-    let b = sum_plus m (λ j. sum_below n (λ i. f i j)) (f n) in
-    omega arith
-
--- none of the numbers below n passes
-pub count_none : (n : ℕ) (p : ℕ → Bool) → ((k : ℕ) → k < n → p k ≡ false) → count_below n p ≡ 0
-count_none n p h = sum_zeros n (λ k. one (p k)) (λ k l. ap one (h k l))
-
--- only j, below n, can pass
-pub count-one : (n j : ℕ) (p : ℕ → Bool) → j < n → ((k : ℕ) → k < n → (k ≡ j → ⊥) → p k ≡ false) → count_below n p ≡ one (p j)
-unfolding sum_below
-count-one zero j p l h = absurd (omega arith)
-count-one (suc n) j p l h =
-    elim (cases_eq j n) [
-      | inl e ↦
-          let a = count_none n p (λ k m. h k (omega arith) (λ f. omega arith)) in
-          let b = ap (λ (k : ℕ). one (p k)) e in
-          omega arith
-      | inr d ↦
-          let a = count-one n j p (omega arith) (λ k m f. h k (omega arith) f) in
-          let b = ap one (h n (omega arith) (λ f. d (sym f))) in
-          omega arith
+-- only j can pass, and does not where it is none of the n indices from a on
+count_at : (a n j : ℕ) (p : ℕ → Bool) → a ≤ j → ((k : ℕ) → (k ≡ j → ⊥) → p k ≡ false) → (a + n ≤ j → p j ≡ false)
+    → count_by p (range_with_len a n) ≡ one (p j)
+count_at a zero j p l only past = sym (ap one (past (omega arith)))
+count_at a (suc n) j p l only past =
+    let f = sum_by-cons (λ k. one (p k)) a (range_with_len (a + 1) n) in
+    elim (cases_eq a j) [
+      | inl e ↦ omega (arith, f, ap (λ (k : ℕ). one (p k)) e, count_none (a + 1) n p (λ k m. only k (λ f. omega arith)))
+      | inr d ↦ omega (arith, f, ap one (only a d), count_at (a + 1) n j p (omega arith) only (λ m. past (omega arith)))
     ]
 
--- only j can pass, and does as b says, which is no where j is not below n
-pub count_at : (n j : ℕ) (p : ℕ → Bool) (b : Bool) → ((k : ℕ) → (k ≡ j → ⊥) → p k ≡ false) → p j ≡ b → (n ≤ j → b ≡ false) → count_below n p ≡ one b
-count_at n j p b only here past =
-    elim (cases_lt j n) [
-      | inl l ↦ count-one n j p l (λ k m d. only k d) ∙ ap one here
-      | inr g ↦ count_none n p (λ k m. only k (λ f. omega arith)) ∙ ap one (sym (past g))
-    ]
+-- what a test adds at the index that a link names
+abbrev pub at_link : Option ℕ → (ℕ → Bool) → ℕ
+at_link None p = 0
+at_link (Some j) p = one (p j)
+
+-- a test that only the link's index can pass
+pub count_link : (o : Option ℕ) (n : ℕ) (p : ℕ → Bool) → ((k : ℕ) → is_index o k ≡ false → p k ≡ false) → ((k : ℕ) → n ≤ k → p k ≡ false)
+    → count_by p (range_with_len 0 n) ≡ at_link o p
+count_link None n p only past = count_none 0 n p (λ k l. only k refl)
+count_link (Some j) n p only past =
+    count_at 0 n j p (omega arith) (λ k d. only k (ne_eqb j k (λ e. d (sym e)))) (λ l. past j (omega arith))

@@ -4,7 +4,8 @@ use Rattle.outline.specs.declared.orientations.Orientation.{Orientation}
 use Rattle.segments.specs.declared.measures.Dimension.{Dimension}
 use Rattle.segments.specs.declared.measures.Dimension.TheVariants.{Horizontal, Vertical}
 use Rattle.segments.specs.declared.tables.Segment.{Segment}
-use Rattle.card.specs.Words.{area_word}
+use Rattle.outline.specs.Words.{area_word}
+use Rattle.card.specs.declared.texts.Card.{Card}
 use Rattle.card.specs.Lines.{line_of, segment_words}
 use Rattle.card.specs.Stems.{stem_count}
 
@@ -33,3 +34,7 @@ card points contours orientation hs vs =
     ++ segment_lines Horizontal 0 hs
     ++ segment_lines Vertical 0 vs
     ++ line_of (stem_words (stem_count hs + stem_count vs))
+
+-- the same of a card's parts
+abbrev pub card_text : Card → List ℕ
+card_text c = card c.points c.contours c.orientation c.horizontal.now c.vertical.now

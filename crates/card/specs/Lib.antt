@@ -1,5 +1,4 @@
 pub mod Faults
-pub mod Held
 pub mod Words
 pub mod Stems
 pub mod Lines

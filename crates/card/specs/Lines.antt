@@ -1,16 +1,18 @@
 -- Lines of the card, as lists of words.
 use Rattle.std.specs.Prelude.{◌≡◌, ℕ, ◌<◌, ◌≤◌, List, [], ◌∷◌, ◌++◌, length, drop, codes, decimal}
+use Rattle.std.specs.List.{flat_map}
 use Rattle.std.specs.Fmt.{signed_decimal}
 use Rattle.segments.specs.declared.measures.Dimension.{Dimension}
 use Rattle.segments.specs.declared.tables.Segment.{Segment}
 use Rattle.card.specs.declared.faults.CardFault.{CardFault}
 use Rattle.card.specs.declared.faults.CardFault.TheVariants.{BufferTooShort}
-use Rattle.card.specs.Words.{axis_word, direction_word, index_word, round_word}
+use Rattle.outline.specs.Words.{direction_word}
+use Rattle.segments.specs.Words.{axis_word}
+use Rattle.card.specs.Words.{index_word, round_word}
 
 -- each word after a space
 abbrev pub spaced : List (List ℕ) → List ℕ
-spaced [] = []
-spaced (w ∷ ws) = codes " " ++ w ++ spaced ws
+spaced ws = flat_map (λ w. codes " " ++ w) ws
 
 -- words with one space between them, and a newline
 unfoldable pub line_of : List (List ℕ) → List ℕ

@@ -1,5 +1,6 @@
 -- Stems: pairs of segments that are each other's link.
-use Rattle.std.specs.Prelude.{◌≡◌, ℕ, zero, suc, ◌+◌, Bool, false, cond, ◌&&◌, List, map, length, is_some, Some, None, Option, ◌==◌, ◌≢◌, nat_lt, slice_index_or}
+use Rattle.std.specs.Prelude.{◌≡◌, ℕ, ◌+◌, Bool, false, ◌&&◌, List, map, length, is_some, Some, None, Option, ◌==◌, ◌≢◌, nat_lt, slice_index_or}
+use Rattle.std.specs.List.{count_by, range_with_len, sum_by}
 use Rattle.segments.specs.declared.tables.Segment.{Segment}
 
 -- the link of entry i; none where the table has no entry i
@@ -23,18 +24,13 @@ opens_to ss i (Some j) = nat_lt i j && is_index (link_at ss j) i
 abbrev pub opens : List Segment → ℕ → Bool
 opens ss i = opens_to ss i (link_at ss i)
 
--- f 0 + f 1 + .. up to, and without, f n
-unfoldable pub sum_below : ℕ → (ℕ → ℕ) → ℕ
-sum_below zero f = 0
-sum_below (suc n) f = sum_below n f + f n
-
--- how many numbers below n pass a test
-abbrev pub count_below : ℕ → (ℕ → Bool) → ℕ
-count_below n p = sum_below n (λ k. cond (p k) 1 0)
+-- the indices of a table's entries
+abbrev pub indices : List Segment → List ℕ
+indices ss = range_with_len 0 (length ss)
 
 -- how many pairs of a table's entries are stems
 abbrev pub stem_count : List Segment → ℕ
-stem_count ss = sum_below (length ss) (λ i. count_below (length ss) (stem ss i))
+stem_count ss = sum_by (λ i. count_by (stem ss i) (indices ss)) (indices ss)
 
 -- each link is returned, and none is to the entry itself
 abbrev pub Returned : List Segment → Type 0
@@ -42,7 +38,7 @@ Returned ss = (i j : ℕ) → link_at ss i ≡ Some j → (link_at ss j ≡ Some
 
 -- how many entries have a link
 abbrev pub linked_count : List Segment → ℕ
-linked_count ss = count_below (length ss) (λ i. is_some (link_at ss i))
+linked_count ss = count_by (λ i. is_some (link_at ss i)) (indices ss)
 
 -- n is half of the linked entries, where links are returned
 abbrev pub Halves : List Segment → ℕ → Type 0

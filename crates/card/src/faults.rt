@@ -5,7 +5,7 @@ ghost use Rattle.card.specs.Faults.{number};
 #[derive(Clone, Copy)]
 pub enum CardFault {
     // under 96 bytes
-    BufferTooShort,
+    BufferTooShort = 18,
 }
 
 impl CardFault {
@@ -13,8 +13,6 @@ impl CardFault {
     pub fn number(self) -> u8
         ensures { result ≡ number self }
     {
-        match self {
-            CardFault::BufferTooShort => 18,
-        }
+        self as u8
     }
 }

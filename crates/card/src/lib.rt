@@ -6,9 +6,8 @@ mod lines;
 mod rows;
 mod stems;
 mod texts;
-mod words;
 
 pub use faults::CardFault;
 pub use rows::card_line;
 pub use stems::stem_count;
-pub use texts::{card_into, card_text, refused_into, refused_text};
+pub use texts::{Card, refused_into, refused_text};

@@ -3,7 +3,7 @@
 
 #[cfg(test)]
 mod tests {
-    use card::{card_line, card_text, refused_into, refused_text, stem_count};
+    use card::{Card, card_line, refused_into, refused_text, stem_count};
     use outline::{Direction, Orientation};
     use segments::{Coordinate, Dimension, Position, Segment};
     use std::test::Fail;
@@ -44,6 +44,14 @@ mod tests {
         }
     }
 
+    const EMPTY: Card = Card {
+        points: 0,
+        contours: 0,
+        orientation: None,
+        horizontal: &[],
+        vertical: &[],
+    };
+
     #[test]
     fn shows_a_card(rt: HostRuntime) -> Result<(), Fail> {
         let horizontal = [
@@ -54,14 +62,14 @@ mod tests {
             side(Direction::Right, 0, 100, 200, 1),
             side(Direction::Left, 700, 100, 200, 0),
         ];
-        let text = card_text(
-            rt.alloc(),
-            4,
-            1,
-            Some(Orientation::CounterClockwise),
-            &horizontal,
-            &vertical,
-        )?;
+        let card = Card {
+            points: 4,
+            contours: 1,
+            orientation: Some(Orientation::CounterClockwise),
+            horizontal: &horizontal,
+            vertical: &vertical,
+        };
+        let text = card.text(rt.alloc())?;
         assert!(rt;
             text.as_str()
                 == "points 4 contours 1 area +\nH 0 up 200 0 0 700 700 - 104 1 -\nH 1 down 100 0 0 700 700 - 104 0 -\nV 0 right 0 0 100 200 100 - 729 1 -\nV 1 left 700 0 100 200 100 - 729 0 -\nstems 2\n"
@@ -71,7 +79,14 @@ mod tests {
 
     #[test]
     fn shows_an_empty_card(rt: HostRuntime) -> Result<(), Fail> {
-        let text = card_text(rt.alloc(), 0, 0, None, &[], &[])?;
+        let text = EMPTY.text(rt.alloc())?;
+        assert!(rt; text.as_str() == "points 0 contours 0 area 0\nstems 0\n");
+        Ok(())
+    }
+
+    #[test]
+    fn shows_a_card_in_room(rt: HostRuntime) -> Result<(), Fail> {
+        let text = EMPTY.text_into(String::new(rt.alloc()))?;
         assert!(rt; text.as_str() == "points 0 contours 0 area 0\nstems 0\n");
         Ok(())
     }

@@ -1,12 +1,10 @@
 // What a call answers.
-use crate::digests::digest;
+use crate::digests::Digest;
 use drawing::EditFault;
-use editing::Sheet;
-use outline::CornerRule;
+use sheet::Sheet;
 use std::alloc::{AllocError, Global};
-use std::io;
 use telling::sheet_text;
-use unscaled::SourceFault;
+use unscaled::CornerCode;
 
 #[derive(Clone, Copy)]
 pub enum Outcome {
@@ -22,43 +20,45 @@ pub struct Answer {
     pub text: String,
 }
 
-// A source's fault is told whole.
-fn fault_text(heap: Global, fault: SourceFault) -> Result<String, AllocError> {
-    let number = fault.number();
-    let index = fault.index;
-    let placements = fault.placements;
-    format!(in heap; "{number} at {index} under {placements}")
-}
-
+// A refusal's number; a source's fault is told whole.
 fn refusal_text(heap: Global, fault: EditFault) -> Result<String, AllocError> {
+    let number = fault.number();
     match fault {
-        EditFault::Source(fault) => fault_text(heap, fault),
-        _ => {
-            let number = fault.number();
-            format!(in heap; "{number}")
+        EditFault::Source(entry) => {
+            let index = entry.index;
+            let placements = entry.placements;
+            format!(in heap; "{number} at {index} under {placements}")
         }
+        _ => format!(in heap; "{number}"),
     }
 }
 
 impl Answer {
-    pub fn of_edit(heap: Global, done: Result<(), EditFault>) -> Result<Answer, AllocError> {
-        match done {
-            Ok(()) => Ok(Answer {
-                outcome: Outcome::Granted,
-                text: String::from_str(heap, "ok")?,
-            }),
-            Err(fault) => Ok(Answer {
-                outcome: Outcome::Refused,
-                text: refusal_text(heap, fault)?,
-            }),
-        }
+    pub fn of_edit(heap: Global, done: Result<(), EditFault>) -> anyhow::Result<Answer> {
+        let (outcome, text) = match done {
+            Ok(()) => (Outcome::Granted, String::from_str(heap, "ok")?),
+            Err(fault) => (Outcome::Refused, refusal_text(heap, fault)?),
+        };
+        Ok(Answer { outcome, text })
+    }
+
+    // Of a question: what was found, if anything was.
+    pub fn of_question(heap: Global, found: Option<String>) -> anyhow::Result<Answer> {
+        let text = match found {
+            Some(text) => text,
+            None => String::from_str(heap, "none")?,
+        };
+        Ok(Answer {
+            outcome: Outcome::Asked,
+            text,
+        })
     }
 
     // Adds the digest of the sheet's whole text.
-    pub fn tell_sheet<R: CornerRule>(&mut self, heap: Global, sheet: &Sheet<R>) -> io::Result<()> {
+    pub fn tell_sheet(&mut self, heap: Global, sheet: &Sheet<CornerCode>) -> anyhow::Result<()> {
         let whole = sheet_text(heap, sheet)?;
-        self.text.push_str(" sheet ")?;
-        self.text.push_str(digest(heap, whole.as_str())?.as_str())?;
+        let digest = Digest::of(whole.as_str());
+        write!(self.text, " sheet {digest}")?;
         Ok(())
     }
 }

@@ -26,6 +26,7 @@ pub struct PointMove {
     pub y: i32,
 }
 
+// A `match`: the words are this program's, and stand here where it reads them.
 fn read_dimension(word: &str) -> anyhow::Result<Dimension> {
     match word {
         "H" => Ok(Dimension::Horizontal),

@@ -1,11 +1,11 @@
 // A sheet that was worked on, held to a clean one with the same contours: what went before must not tell.
 use crate::plays::play_line;
 use anyhow::anyhow;
-use editing::Sheet;
-use outline::{CornerRule, Point};
+use outline::{Contour, Point};
+use sheet::Sheet;
 use std::alloc::{AllocError, Global};
 use telling::{Tally, sheet_text};
-use unscaled::{PointTable, UnscaledPoint};
+use unscaled::{CornerCode, PointTable, UnscaledPoint};
 
 // Calls that both sheets are put to, one after the other.
 const FURTHER: [&str; 9] = [
@@ -20,7 +20,7 @@ const FURTHER: [&str; 9] = [
     "read H 1001",
 ];
 
-// A point as it would be drawn again.
+// A point as it would be drawn again. No From: that it opens no contour is this comparison's choice.
 fn redrawn(point: &Point) -> UnscaledPoint {
     UnscaledPoint {
         x: i32::from(point.x),
@@ -30,27 +30,20 @@ fn redrawn(point: &Point) -> UnscaledPoint {
     }
 }
 
-fn contour_points<R: CornerRule>(
+fn contour_points(
     heap: Global,
-    sheet: &Sheet<R>,
-    k: usize,
+    sheet: &Sheet<CornerCode>,
+    contour: Contour,
 ) -> Result<Vec<UnscaledPoint>, AllocError> {
-    let mut points = Vec::new(heap);
-    if let Some(contour) = sheet.contour(k) {
-        for i in contour.first..contour.end {
-            if let Some(point) = sheet.point(i) {
-                points.push(redrawn(&point))?;
-            }
-        }
-    }
-    Ok(points)
+    let points = sheet.points().get(contour.first..contour.end);
+    points.unwrap_or(&[]).iter().map(redrawn).collect(heap)
 }
 
 // A clean sheet of the same settings and rule, with each contour placed by itself.
-fn redraw<R: CornerRule + Copy + Drop>(heap: Global, sheet: &Sheet<R>) -> anyhow::Result<Sheet<R>> {
+fn redraw(heap: Global, sheet: &Sheet<CornerCode>) -> anyhow::Result<Sheet<CornerCode>> {
     let mut clean = Sheet::new(heap, sheet.settings(), *sheet.rule())?;
-    for k in 0..sheet.contour_count() {
-        let points = contour_points(heap, sheet, k)?;
+    for contour in sheet.contours() {
+        let points = contour_points(heap, sheet, *contour)?;
         if clean.place(&PointTable::new(points.as_slice())).is_err() {
             return Err(anyhow!("a sheet's own contour is refused"));
         }
@@ -59,9 +52,9 @@ fn redraw<R: CornerRule + Copy + Drop>(heap: Global, sheet: &Sheet<R>) -> anyhow
 }
 
 // Compares a worked sheet with a clean one: their texts, and then all that further calls answer.
-pub fn compare_clean<R: CornerRule + Copy + Drop>(
+pub fn compare_clean(
     heap: Global,
-    worked: &mut Sheet<R>,
+    worked: &mut Sheet<CornerCode>,
     tally: &mut Tally,
 ) -> anyhow::Result<()> {
     let mut clean = redraw(heap, worked)?;

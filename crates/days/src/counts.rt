@@ -4,7 +4,7 @@ ghost use Rattle.std.specs.Prelude.{◌≡◌, ◌+◌, ◌-◌, ◌^◌, min};
 use crate::answers::Outcome;
 use std::fmt;
 
-#[derive(Clone, Copy)]
+#[derive(Clone, Copy, Default)]
 pub struct Counts {
     calls: u64,
     granted: u64,
@@ -14,18 +14,6 @@ pub struct Counts {
 }
 
 impl Counts {
-    pub fn none() -> Counts
-        ensures { result.differences ≡ 0 }
-    {
-        Counts {
-            calls: 0,
-            granted: 0,
-            refused: 0,
-            asked: 0,
-            differences: 0,
-        }
-    }
-
     pub fn add_call(&mut self, outcome: Outcome)
         ensures counted { self.new.calls ≡ min (self.old.calls + 1) (2 ^ 64 - 1) }
         ensures differences { self.new.differences ≡ self.old.differences }
@@ -59,14 +47,10 @@ impl Counts {
 
 impl fmt::Display for Counts {
     fn fmt<W: fmt::Write>(&self, f: &mut fmt::Formatter<W>) -> fmt::Result {
-        let calls = self.calls;
-        let granted = self.granted;
-        let refused = self.refused;
-        let asked = self.asked;
-        let differences = self.differences;
         write!(
             f,
-            "{calls} calls, {granted} granted, {refused} refused, {asked} asked, {differences} differences"
+            "{} calls, {} granted, {} refused, {} asked, {} differences",
+            self.calls, self.granted, self.refused, self.asked, self.differences
         )
     }
 }

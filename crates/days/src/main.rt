@@ -27,7 +27,7 @@ fn play_all(rt: &HostRuntime) -> anyhow::Result<()> {
     let heap = rt.alloc();
     let mut lines = Vec::new(heap);
     let mut days = 0u64;
-    let mut total = Counts::none();
+    let mut total = Counts::default();
     for line in BufReader::new(heap, rt.stdin())?.lines(heap) {
         let line = line?;
         let ends_day = line.starts_with("end ");

@@ -3,8 +3,9 @@
 use anyhow::anyhow;
 use outline::PointKind;
 use std::alloc::Global;
+use std::str::FromStr;
 use telling::from_hex;
-use unscaled::UnscaledPoint;
+use unscaled::{Placement, UnscaledPoint};
 
 // Stands for no points at all.
 const NO_POINTS: &str = "-";
@@ -21,41 +22,60 @@ pub struct Offset {
     pub dy: i32,
 }
 
+impl FromStr for Offset {
+    type Err = anyhow::Error;
+
+    fn from_str(text: &str) -> anyhow::Result<Offset> {
+        let Some((dx, dy)) = text.split_once(',') else {
+            return Err(anyhow!("a placement has two numbers"));
+        };
+        Ok(Offset {
+            dx: dx.parse()?,
+            dy: dy.parse()?,
+        })
+    }
+}
+
+impl Offset {
+    // A placement by this over what is below.
+    pub fn over<S>(self, below: S) -> Placement<S> {
+        Placement {
+            below,
+            dx: self.dx,
+            dy: self.dy,
+        }
+    }
+}
+
 #[derive(Drop)]
 pub struct StoredSource {
     pub points: StoredPoints,
     pub offsets: Vec<Offset>,
 }
 
-fn kind_of(kind: u8) -> PointKind {
-    if kind % 2 == 1 {
-        PointKind::OnCurve
-    } else {
-        PointKind::Control
-    }
-}
-
-// A point of a table: x, y and the kind of a record, 0 to 3.
+// A point of a table: x, y and the kind of a record, 0 to 3. By the kind's bits, since a greater one is no error here.
 fn read_point(heap: Global, text: &str) -> anyhow::Result<UnscaledPoint> {
     let numbers: Vec<&str> = text.split(',').collect(heap)?;
     let [x, y, kind] = numbers.as_slice() else {
         return Err(anyhow!("a point has three numbers"));
     };
-    let kind = kind.parse()?;
+    let kind: u8 = kind.parse()?;
     Ok(UnscaledPoint {
         x: x.parse()?,
         y: y.parse()?,
-        kind: kind_of(kind),
+        kind: if kind % 2 == 1 {
+            PointKind::OnCurve
+        } else {
+            PointKind::Control
+        },
         is_contour_start: kind >= 2,
     })
 }
 
 fn read_table(heap: Global, text: &str) -> anyhow::Result<Vec<UnscaledPoint>> {
-    let mut points = Vec::new(heap);
-    for point in text.split(';') {
-        points.push(read_point(heap, point)?)?;
-    }
-    Ok(points)
+    text.split(';')
+        .map(|point| read_point(heap, point))
+        .try_collect(heap)
 }
 
 fn read_points(heap: Global, form: &str, text: &str) -> anyhow::Result<StoredPoints> {
@@ -68,30 +88,12 @@ fn read_points(heap: Global, form: &str, text: &str) -> anyhow::Result<StoredPoi
     }
 }
 
-fn read_offset(text: &str) -> anyhow::Result<Offset> {
-    let Some((dx, dy)) = text.split_once(',') else {
-        return Err(anyhow!("a placement has two numbers"));
-    };
-    Ok(Offset {
-        dx: dx.parse()?,
-        dy: dy.parse()?,
-    })
-}
-
-fn read_offsets(heap: Global, words: &[&str]) -> anyhow::Result<Vec<Offset>> {
-    let mut offsets = Vec::new(heap);
-    for word in words {
-        offsets.push(read_offset(word)?)?;
-    }
-    Ok(offsets)
-}
-
 pub fn read_source(heap: Global, words: &[&str]) -> anyhow::Result<StoredSource> {
     let [form, points, offsets @ ..] = words else {
         return Err(anyhow!("a source has a form and points"));
     };
     Ok(StoredSource {
         points: read_points(heap, form, points)?,
-        offsets: read_offsets(heap, offsets)?,
+        offsets: offsets.iter().map(|word| word.parse()).try_collect(heap)?,
     })
 }

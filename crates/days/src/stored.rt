@@ -2,11 +2,11 @@
 // its answer; a line `end` with the digest of what the sheet then holds.
 use crate::clean::compare_clean;
 use crate::counts::Counts;
-use crate::digests::digest;
+use crate::digests::Digest;
 use crate::plays::play_line;
 use anyhow::anyhow;
-use editing::Sheet;
-use outline::{Aot, CornerRule, Jit, Settings};
+use outline::Settings;
+use sheet::Sheet;
 use std::alloc::Global;
 use telling::{Tally, sheet_text};
 use unscaled::{CornerCode, Header};
@@ -19,16 +19,14 @@ pub struct DayPlayed {
 }
 
 fn stored_answer(line: &str) -> anyhow::Result<&str> {
-    match line.strip_prefix("= ") {
-        Some(answer) => Ok(answer),
-        None => Err(anyhow!("a call is followed by its answer")),
-    }
+    line.strip_prefix("= ")
+        .ok_or_else(|| anyhow!("a call is followed by its answer"))
 }
 
 // Plays each call, and compares its answer with the line after it.
-fn play_calls<R: CornerRule>(
+fn play_calls(
     heap: Global,
-    sheet: &mut Sheet<R>,
+    sheet: &mut Sheet<CornerCode>,
     calls: &[String],
     counts: &mut Counts,
     tally: &mut Tally,
@@ -44,29 +42,23 @@ fn play_calls<R: CornerRule>(
     Ok(())
 }
 
-fn compare_end<R: CornerRule>(
+fn compare_end(
     heap: Global,
-    sheet: &Sheet<R>,
+    sheet: &Sheet<CornerCode>,
     end: &str,
     tally: &mut Tally,
 ) -> anyhow::Result<()> {
     let whole = sheet_text(heap, sheet)?;
-    let own = digest(heap, whole.as_str())?;
+    let own = Digest::of(whole.as_str()).to_string(heap)?;
     tally.compare(end.strip_prefix("end ").unwrap_or(""), own.as_str())?;
     Ok(())
 }
 
-// A day on a sheet with this rule.
-fn play_day<R: CornerRule + Copy + Drop>(
-    heap: Global,
-    settings: Settings,
-    rule: R,
-    calls: &[String],
-    end: &str,
-) -> anyhow::Result<DayPlayed> {
-    let mut sheet = Sheet::new(heap, settings, rule)?;
-    let mut counts = Counts::none();
-    let mut tally = Tally::new(heap);
+// A day on a sheet with the settings and the rule of its head.
+fn play_day(heap: Global, head: Header, calls: &[String], end: &str) -> anyhow::Result<DayPlayed> {
+    let mut sheet = Sheet::new(heap, head.settings, head.corner)?;
+    let mut counts = Counts::default();
+    let mut tally = Tally::new(heap, "text");
     play_calls(heap, &mut sheet, calls, &mut counts, &mut tally)?;
     compare_end(heap, &sheet, end, &mut tally)?;
     compare_clean(heap, &mut sheet, &mut tally)?;
@@ -78,12 +70,12 @@ fn play_day<R: CornerRule + Copy + Drop>(
 }
 
 fn read_settings(units: &str, width: &str) -> anyhow::Result<Settings> {
-    match Settings::new(units.parse()?, width.parse()?) {
-        Ok(settings) => Ok(settings),
-        Err(_) => Err(anyhow!("a day's settings are refused")),
-    }
+    Settings::new(units.parse()?, width.parse()?).map_err(|_| anyhow!(
+        "a day's settings are refused"
+    ))
 }
 
+// A `match`: the words are this program's, and stand here where it reads them.
 fn read_corner(word: &str) -> anyhow::Result<CornerCode> {
     match word {
         "jit" => Ok(CornerCode::Jit),
@@ -113,8 +105,5 @@ pub fn play_stored(heap: Global, lines: &[String]) -> anyhow::Result<DayPlayed> 
         return Err(anyhow!("a day has a last line"));
     };
     let head = read_head(heap, first.as_str())?;
-    match head.corner {
-        CornerCode::Jit => play_day(heap, head.settings, Jit, calls, end.as_str()),
-        CornerCode::Aot => play_day(heap, head.settings, Aot, calls, end.as_str()),
-    }
+    play_day(heap, head, calls, end.as_str())
 }

@@ -23,39 +23,11 @@ pub fn stale_entry() -> Segment {
     }
 }
 
-fn same_measures(a: &Segment, b: &Segment) -> bool {
-    a.dir == b.dir
-        && a.pos.0 == b.pos.0
-        && a.delta == b.delta
-        && a.min_coord.0 == b.min_coord.0
-        && a.max_coord.0 == b.max_coord.0
-        && a.height == b.height
-        && a.round == b.round
-}
-
-fn same_entry(a: &Segment, b: &Segment) -> bool {
-    same_measures(a, b)
-        && a.score == b.score
-        && a.link == b.link
-        && a.serif == b.serif
-        && a.first == b.first
-        && a.last == b.last
-}
-
-fn all_same(entries: &[Segment], one: &Segment) -> bool {
-    for entry in entries {
-        if !same_entry(entry, one) {
-            return false;
-        }
-    }
-    true
-}
-
 // What the entries after the segments are.
 fn rest_word(rest: &[Segment]) -> &'static str {
-    if all_same(rest, &Segment::blank()) {
+    if rest.iter().all(|entry| *entry == Segment::blank()) {
         "blank"
-    } else if all_same(rest, &stale_entry()) {
+    } else if rest.iter().all(|entry| *entry == stale_entry()) {
         "stale"
     } else {
         "mixed"
@@ -66,12 +38,11 @@ fn rest_word(rest: &[Segment]) -> &'static str {
 pub fn table_text(
     heap: Global,
     dimension: Dimension,
-    table: &[Segment],
-    count: usize,
+    segments: &[Segment],
+    rest: &[Segment],
 ) -> io::Result<String> {
     let mut out = String::new(heap);
-    push_segments(&mut out, dimension, table, count)?;
-    let rest = table.get(count..).unwrap_or(&[]);
+    push_segments(&mut out, dimension, segments)?;
     let word = rest_word(rest);
     let entries = rest.len();
     writeln!(out, "{word} {entries}")?;

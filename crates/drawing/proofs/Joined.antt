@@ -3,7 +3,7 @@ use Rattle.std.proofs.Common.{◌≡◌, ℕ, zero, suc, ◌+◌, ◌-◌, ◌<�
 use native.Mathlib.Nat.{sub-zero}
 use Rattle.std.specs.List.{between}
 use Rattle.std.proofs.lemmas.List.Edits.{between_more}
-use Rattle.std.proofs.lemmas.List.{set-append_left, take-append-drop, take_at, take-set-le, drop-set-lt, drop-set-add, drop_more, length-append, length-take, length-drop, length-set}
+use Rattle.std.proofs.lemmas.List.{set-append_left, take-append-drop, take_at, take-set-le, drop-set-lt, drop-set-add, drop_more, length-take, length-drop, length-set}
 use Rattle.std.proofs.lemmas.Slice.{between_is, between_to_end}
 use Rattle.outline.specs.declared.contours.Contour.{Contour}
 use Rattle.outline.specs.declared.points.DrawnPoint.{DrawnPoint}
@@ -34,10 +34,6 @@ room-more entry cs ds f k e l h m p q =
     let here = ap point_count p ∙ point_count-append entry (between f k ds) in
     omega (arith, within_more (drop f ds) (k + 1 - f) (e - f) (omega arith), next, here)
 
-pub count-more : (entry cs ds : Contours) (f k e : ℕ) → f ≤ k → k < e → e ≤ length ds → cs ≡ entry ++ between f k ds
-    → length entry + (e - f) ≤ 128 → length cs < 128
-count-more entry cs ds f k e l h m p q = rw p (simp (length-append, length-take, length-drop) (omega arith))
-
 between_front : (cs : Contours) (k : ℕ) → between 0 k cs ≡ take k cs
 between_front cs k = ap (λ (n : ℕ). take n cs) (sub-zero k)
 
@@ -49,12 +45,9 @@ parts-count cs k h =
 
 -- a splice, part by part: old up to contour k, all of new, old after contour k
 module _ (old new : Contours) (k : ℕ) (h : k < length old)
-    (few : (point_count old - length (get_or old k [])) + point_count new ≤ 2048) (less : length old + length new ≤ 129) where
+    (few : (point_count old - length (get_or old k [])) + point_count new ≤ 2048) where
   pub front-points : (a : Contours) → a ≡ [] → point_count a + point_count (between 0 k old) ≤ 2048
   front-points a e = rw (e, between_front old k) (omega (arith, parts-count old k h))
-
-  pub front-count : (a : Contours) → a ≡ [] → length a + (k - 0) ≤ 128
-  front-count a e = rw e (omega (arith, parts-count old k h))
 
   module _ (a b : Contours) (e : a ≡ []) (p : b ≡ a ++ between 0 k old) (n : ℕ) (all_new : n ≡ length new) where
     front : b ≡ take k old
@@ -66,9 +59,6 @@ module _ (old new : Contours) (k : ℕ) (h : k < length old)
     pub middle-points : point_count b + point_count (between 0 n new) ≤ 2048
     middle-points = rw (front, middle) (omega (arith, parts-count old k h))
 
-    pub middle-count : length b + (n - 0) ≤ 128
-    middle-count = rw front (simp length-take (omega arith))
-
     module _ (c : Contours) (q : c ≡ b ++ between 0 n new) (m : ℕ) (all_old : m ≡ length old) where
       both : c ≡ take k old ++ new
       both = rw (q, front, middle)
@@ -78,12 +68,6 @@ module _ (old new : Contours) (k : ℕ) (h : k < length old)
 
       pub rest-points : point_count c + point_count (between (k + 1) m old) ≤ 2048
       rest-points = rw (both, rest) (omega (arith, point_count-append (take k old) new, parts-count old k h))
-
-      pub rest-count : length c + (m - (k + 1)) ≤ 128
-      rest-count = rw both (simp (length-append, length-take) (omega arith))
-
-      pub spliced : (d : Contours) → d ≡ c ++ between (k + 1) m old → d ≡ (take k old ++ new) ++ drop (k + 1) old
-      spliced d r = rw (r, both, rest)
 
 -- a point of contour k in the place of another
 take-set : {X : Type 0} (n : ℕ) (xs : List X) (j : ℕ) (q : X) → j < n → n ≤ length xs → take n (set xs j q) ≡ set (take n xs) j q

@@ -19,7 +19,7 @@ pub enum EditFault {
 }
 
 impl EditFault {
-    // The number of the refusal; a source's fault keeps its own.
+    // The number of the refusal; a source's fault keeps its own. By a match: two share 15, and one has the number of what it holds.
     pub fn number(&self) -> u8
         ensures { result ≡ number self.now }
     {

@@ -3,9 +3,11 @@
 
 mod drawings;
 mod faults;
+mod limits;
 mod records;
 
 pub use drawings::Drawing;
 pub use drawings::taking::admit;
 pub use faults::EditFault;
+pub use limits::ContourLimit;
 pub use records::Records;

@@ -1,88 +1,74 @@
 -- A choice is the first of the lowest below 32000, and a link a choice that is returned.
-use Rattle.std.proofs.Common.{◌≡◌, ℕ, zero, suc, ◌<◌, ◌≤◌, Bool, true, false, cond, ◌||◌, ltb, ◌⊎◌, Some, None, Option, sym, refl, ap, ◌∙◌, subst, ⊎_elim, arith}
-use Rattle.std.proofs.lemmas.Bool.{lt-ltb, le-ltb, eqb-true, eq-eqb, cases_lt, cases_Bool, both_ways, cond-true, cond-false, or_left, or_right, or_from}
-use Rattle.std.specs.Cmp.{IsStrictWeakOrder}
-use Rattle.std.proofs.lemmas.Bool.Decides.{nat_tests}
-use Rattle.std.proofs.lemmas.List.MinMax.{IsStrictWeakOrder-by_number}
-use Rattle.linking.specs.Choices.{able, ranked, ahead, chosen}
+use Rattle.std.proofs.Common.{◌≡◌, ℕ, zero, suc, ◌<◌, ◌≤◌, true, false, cond, ◌||◌, ltb, ◌⊎◌, Some, None, Option, sym, refl, ap, ◌∙◌, subst, ⊎_elim, arith}
+use Rattle.std.proofs.lemmas.Bool.{lt-ltb, le-ltb, ltb-true, ltb-false, eqb-true, eq-eqb, cases_lt, cases_Bool, both_ways, cond-true, cond-false, or_left, or_right, or_from}
+use Rattle.std.proofs.lemmas.Option.{none-some}
+use Rattle.linking.specs.Choices.{able, ranked, ahead, worth, chosen}
 use Rattle.linking.specs.Links.{picks, returned, paired, link_of, serif_by, serif_of}
 use Rattle.linking.proofs.Settling.{cases_option}
+use Rattle.linking.proofs.Steps.{ahead_is}
 
--- a choice in any order: among n, j is the first of the best of those able
-pub record FirstBest (ok : ℕ → Bool) (lt : ℕ → ℕ → Bool) (n j : ℕ) : Type 0 where
+-- among n scores, that of j is the first of the lowest, and below 32000
+pub record FirstLowest (s : ℕ → ℕ) (n j : ℕ) : Type 0 where
   pub inside : j < n
-  pub able : ok j ≡ true
-  pub best : (k : ℕ) → k < n → ok k ≡ true → lt k j ≡ false
-  pub first : (k : ℕ) → k < j → ok k ≡ true → lt j k ≡ true
+  pub below : s j < 32000
+  pub lowest : (k : ℕ) → k < n → s j ≤ s k
+  pub first : (k : ℕ) → k < j → s j < s k
 
--- an order that ranks, in which whoever is before an able one is able
-pub record Order (ok : ℕ → Bool) (lt : ℕ → ℕ → Bool) : Type 0 where
-  pub ranks : IsStrictWeakOrder lt
-  pub down : (p c : ℕ) → ok c ≡ true → lt p c ≡ true → ok p ≡ true
+-- what is held after n: nothing, or the first lowest
+abbrev pub Held : (ℕ → ℕ) → ℕ → Option ℕ → Type 0
+Held s n None = (k : ℕ) → k < n → 32000 ≤ s k
+Held s n (Some j) = FirstLowest s n j
 
-module _ (ok : ℕ → Bool) (lt : ℕ → ℕ → Bool) (o : Order ok lt) where
-  not_itself : (n : ℕ) → lt n n ≡ false
-  not_itself n = ⊎_elim (λ (e : lt n n ≡ true). o.ranks.one_way n n e) (λ (e : lt n n ≡ false). e) (cases_Bool (lt n n))
+up_to : (s : ℕ → ℕ) (n m : ℕ) → ((k : ℕ) → k < n → m ≤ s k) → m ≤ s n → (k : ℕ) → k < suc n → m ≤ s k
+up_to s n m h e k l = ⊎_elim (λ (q : k < n). h k q) (λ (q : n ≤ k). let z : n ≡ k = omega arith in subst (λ i. m ≤ s i) z e) (cases_lt k n)
 
--- what is held after n: nothing, or the first best
-abbrev pub Best : (ℕ → Bool) → (ℕ → ℕ → Bool) → ℕ → Option ℕ → Type 0
-Best ok lt n None = (k : ℕ) → k < n → ok k ≡ false
-Best ok lt n (Some j) = FirstBest ok lt n j
-
-best_takes : (ok : ℕ → Bool) (lt : ℕ → ℕ → Bool) (o : Order ok lt) (n : ℕ) (h : Option ℕ) → Best ok lt n h → ahead ok lt n h ≡ true → FirstBest ok lt (suc n) n
-best_takes ok lt o n None b e = record {
+takes : (s : ℕ → ℕ) (n : ℕ) (h : Option ℕ) → Held s n h → s n < worth s h → FirstLowest s (suc n) n
+takes s n None b e = record {
   inside = omega arith;
-  able = e;
-  best = λ k l a. ⊎_elim (λ (q : k < n). absurd (both_ways (ok k) (b k q) a)) (λ (q : n ≤ k). let z : n ≡ k = omega arith in subst (λ m. lt m n ≡ false) z (not_itself ok lt o n)) (cases_lt k n);
-  first = λ k l a. absurd (both_ways (ok k) (b k l) a);
+  below = e;
+  lowest = up_to s n (s n) (λ k l. omega (arith, b k l)) (omega arith);
+  first = λ k l. omega (arith, b k l);
 }
-best_takes ok lt o n (Some j) b e = record {
+takes s n (Some j) b e = record {
   inside = omega arith;
-  able = o.down n j b.able e;
-  best = λ k l a. ⊎_elim (λ (q : k < n). o.ranks.chain k j n (b.best k q a) (o.ranks.one_way n j e)) (λ (q : n ≤ k). let z : n ≡ k = omega arith in subst (λ m. lt m n ≡ false) z (not_itself ok lt o n)) (cases_lt k n);
-  first = λ k l a. ⊎_elim (λ (q : lt n k ≡ true). q) (λ (q : lt n k ≡ false). absurd (both_ways (lt n j) (o.ranks.chain n k j q (b.best k l a)) e)) (cases_Bool (lt n k));
+  below = omega (arith, b.below);
+  lowest = up_to s n (s n) (λ k l. omega (arith, b.lowest k l)) (omega arith);
+  first = λ k l. omega (arith, b.lowest k l);
 }
 
-best_keeps : (ok : ℕ → Bool) (lt : ℕ → ℕ → Bool) (n : ℕ) (h : Option ℕ) → Best ok lt n h → ahead ok lt n h ≡ false → Best ok lt (suc n) h
-best_keeps ok lt n None b e = λ k l. ⊎_elim (λ (q : k < n). b k q) (λ (q : n ≤ k). let z : n ≡ k = omega arith in subst (λ m. ok m ≡ false) z e) (cases_lt k n)
-best_keeps ok lt n (Some j) b e = record {
-  inside = omega (arith, b.inside);
-  able = b.able;
-  best = λ k l a. ⊎_elim (λ (q : k < n). b.best k q a) (λ (q : n ≤ k). let z : n ≡ k = omega arith in subst (λ m. lt m j ≡ false) z e) (cases_lt k n);
-  first = b.first;
-}
+keeps : (s : ℕ → ℕ) (n : ℕ) (h : Option ℕ) → Held s n h → worth s h ≤ s n → Held s (suc n) h
+keeps s n None b e = up_to s n 32000 b e
+keeps s n (Some j) b e = record { inside = omega (arith, b.inside); below = b.below; lowest = up_to s n (s j) b.lowest e; first = b.first }
 
-pub best : (ok : ℕ → Bool) (lt : ℕ → ℕ → Bool) → Order ok lt → (n : ℕ) → Best ok lt n (chosen (ahead ok lt) n)
-best ok lt o zero = λ k h. absurd (omega arith)
-best ok lt o (suc n) =
-    let h = chosen (ahead ok lt) n in
+pub held : (s : ℕ → ℕ) (n : ℕ) → Held s n (chosen (ahead (able s) (ranked s)) n)
+held s zero = λ k h. absurd (omega arith)
+held s (suc n) =
+    let h = chosen (ahead (able s) (ranked s)) n in
+    let b = ahead (able s) (ranked s) n h in
+    let is : b ≡ ltb (s n) (worth s h) = ahead_is s n h in
     ⊎_elim
-    (λ (e : ahead ok lt n h ≡ true). subst (λ b. Best ok lt (suc n) (cond b (Some n) h)) (sym e) (best_takes ok lt o n h (best ok lt o n) e))
-    (λ (e : ahead ok lt n h ≡ false). subst (λ b. Best ok lt (suc n) (cond b (Some n) h)) (sym e) (best_keeps ok lt n h (best ok lt o n) e))
-    (cases_Bool (ahead ok lt n h))
+    (λ (e : b ≡ true). subst (λ x. Held s (suc n) (cond x (Some n) h)) (sym e) (takes s n h (held s n) (ltb-true (s n) (worth s h) (sym is ∙ e))))
+    (λ (e : b ≡ false). subst (λ x. Held s (suc n) (cond x (Some n) h)) (sym e) (keeps s n h (held s n) (ltb-false (s n) (worth s h) (sym is ∙ e))))
+    (cases_Bool b)
 
-pub chosen_best : (ok : ℕ → Bool) (lt : ℕ → ℕ → Bool) → Order ok lt → (n j : ℕ) → chosen (ahead ok lt) n ≡ Some j → FirstBest ok lt n j
-chosen_best ok lt o n j e = subst (Best ok lt n) e (best ok lt o n)
+pub chosen_first : (s : ℕ → ℕ) (n j : ℕ) → chosen (ahead (able s) (ranked s)) n ≡ Some j → FirstLowest s n j
+chosen_first s n j e = subst (Held s n) e (held s n)
 
 -- there is but one
-pub best_chosen : (ok : ℕ → Bool) (lt : ℕ → ℕ → Bool) → Order ok lt → (n j : ℕ) → FirstBest ok lt n j → chosen (ahead ok lt) n ≡ Some j
-best_chosen ok lt o n j h =
+pub first_chosen : (s : ℕ → ℕ) (n j : ℕ) → FirstLowest s n j → chosen (ahead (able s) (ranked s)) n ≡ Some j
+first_chosen s n j h =
+    let c = chosen (ahead (able s) (ranked s)) n in
     ⊎_elim
-    (λ (e : chosen (ahead ok lt) n ≡ None). let b : Best ok lt n None = subst (Best ok lt n) e (best ok lt o n) in absurd (both_ways (ok j) (b j h.inside) h.able))
-    (λ (e : (k : ℕ) × (chosen (ahead ok lt) n ≡ Some k)).
-    let b : FirstBest ok lt n e.0 = chosen_best ok lt o n e.0 e.1 in
+    (λ (e : c ≡ None). let b : Held s n None = subst (Held s n) e (held s n) in absurd (omega (arith, b j h.inside, h.below)))
+    (λ (e : (k : ℕ) × (c ≡ Some k)).
     let k = e.0 in
+    let b : FirstLowest s n k = chosen_first s n k e.1 in
     let same : k ≡ j =
-    ⊎_elim (λ (q : k < j). absurd (both_ways (lt j k) (b.best j h.inside h.able) (h.first k q b.able)))
-    (λ (q : j ≤ k). ⊎_elim (λ (p : j < k). absurd (both_ways (lt k j) (h.best k b.inside b.able) (b.first j p h.able))) (λ (p : k ≤ j). omega arith) (cases_lt j k))
+    ⊎_elim (λ (q : k < j). absurd (omega (arith, b.lowest j h.inside, h.first k q)))
+    (λ (q : j ≤ k). ⊎_elim (λ (p : j < k). absurd (omega (arith, h.lowest k b.inside, b.first j p))) (λ (p : k ≤ j). omega arith) (cases_lt j k))
     (cases_lt k j) in
     e.1 ∙ ap Some same)
-    (cases_option (chosen (ahead ok lt) n))
-
--- ---- the order: the lower score
-
-pub by_score : (s : ℕ → ℕ) → Order (able s) (ranked s)
-by_score s = record { ranks = IsStrictWeakOrder-by_number s; down = λ p c a b. grind (arith, nat_tests) }
+    (cases_option c)
 
 -- ---- links, of any choice
 
@@ -97,8 +83,7 @@ link_from ch i j e =
     let c : ch i ≡ Some j = sym (cond-true (paired ch i) (ch i) None p) ∙ e in
     (c, picks_true (ch j) i (ap (returned ch i) (sym c) ∙ p)))
     (λ (p : paired ch i ≡ false).
-    let n : None ≡ Some j = sym (cond-false (paired ch i) (ch i) None p) ∙ e in
-    let z : ◌≡◌ {A = ℕ} 0 1 = cc in absurd (omega arith))
+    absurd (none-some j (sym (cond-false (paired ch i) (ch i) None p) ∙ e)))
     (cases_Bool (paired ch i))
 
 pub link_to : (ch : ℕ → Option ℕ) (i j : ℕ) → ch i ≡ Some j → ch j ≡ Some i → link_of ch i ≡ Some j
@@ -119,8 +104,7 @@ pub unlinked_unpaired : (ch : ℕ → Option ℕ) (i t : ℕ) → ch i ≡ Some 
 unlinked_unpaired ch i t c e =
     ⊎_elim
     (λ (p : paired ch i ≡ true).
-    let n : Some t ≡ None = sym c ∙ sym (cond-true (paired ch i) (ch i) None p) ∙ e in
-    let z : ◌≡◌ {A = ℕ} 0 1 = cc in absurd (omega arith))
+    absurd (none-some t (sym e ∙ cond-true (paired ch i) (ch i) None p ∙ c)))
     (λ (p : paired ch i ≡ false). p)
     (cases_Bool (paired ch i))
 

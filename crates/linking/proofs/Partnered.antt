@@ -1,10 +1,11 @@
 -- The rule's test and score say what the words say.
-use Rattle.std.proofs.Common.{◌≡◌, ℕ, ◌<◌, ◌≤◌, true, false, cond, ◌&&◌, eqb, leb, List, ℤ, pos, negsuc, ◌-ℤ◌, ◌≤ℤ◌, ◌<ℤ◌, sym, refl, ap, ◌∙◌, inl, inr, ⊎_elim, arith}
+use Rattle.std.proofs.Common.{◌≡◌, ℕ, ◌<◌, ◌≤◌, true, false, ◌&&◌, leb, List, ℤ, pos, negsuc, ◌-ℤ◌, ◌≤ℤ◌, ◌<ℤ◌, sym, ap, ◌∙◌, inl, inr, ⊎_elim, arith}
 use lib.Signed.{lt_z}
 use borrow.Author.Differences.{lt-true}
 use Rattle.std.specs.Int.{int_min, int_max}
 use Rattle.std.proofs.lemmas.Int.{ints}
-use Rattle.std.proofs.lemmas.Bool.{ltb-true, ltb-false, le-ltb, leb-true, lt-ltb, le-leb, eqb-true, eq-eqb, cases_lt, cases_Bool, both_ways, cond-true, cond-false, and_parts, and_from}
+use Rattle.std.proofs.lemmas.Bool.{leb-true, le-leb, eqb-true, eq-eqb, cases_lt, cases_Bool, both_ways, cond-true, cond-false, and_parts, and_from}
+use Rattle.outline.proofs.Same.{same_means}
 use Rattle.outline.specs.declared.directions.Direction.{Direction}
 use Rattle.outline.specs.declared.directions.Direction.TheVariants as dir
 use Rattle.outline.specs.declared.directions.Direction.TheVariants.{Right, Left, Up, Down}
@@ -12,22 +13,12 @@ use Rattle.segments.specs.declared.tables.Segment.{Segment}
 use Rattle.linking.specs.declared.rules.Rule.{Rule}
 use Rattle.linking.specs.Rules.{clip, overlap, faces, meets, cost, price}
 use Rattle.outline.specs.Directions.{code, same, opposite, Opposite}
-use Rattle.linking.specs.Choices.{at, score, able, ranked}
+use Rattle.linking.specs.Choices.{at, score}
 use Rattle.linking.specs.Laws.{Partners, PartnersAt, Chooses}
-use Rattle.linking.proofs.Chosen.{FirstBest}
+use Rattle.linking.proofs.Chosen.{FirstLowest}
 use Rattle.linking.proofs.Steps.{same_not_opposed}
 
 -- ---- directions
-
-abbrev by_code : ℕ → Direction
-by_code n = cond (eqb n 1) Right (cond (eqb n 2) Left (cond (eqb n 3) Up (cond (eqb n 4) Down dir.None)))
-
-by_code_is : (d : Direction) → by_code (code d) ≡ d
-by_code_is dir.None = refl
-by_code_is Right = refl
-by_code_is Left = refl
-by_code_is Up = refl
-by_code_is Down = refl
 
 code_small : (d : Direction) → code d < 5
 code_small dir.None = omega arith
@@ -36,15 +27,12 @@ code_small Left = omega arith
 code_small Up = omega arith
 code_small Down = omega arith
 
-same_true : (a b : Direction) → same a b ≡ true → a ≡ b
-same_true a b e = sym (by_code_is a) ∙ ap by_code (eqb-true (code a) (code b) e) ∙ by_code_is b
-
 opposite_means : (m b : Direction) → opposite m b ≡ true → Opposite m b
 opposite_means dir.None b e = absurd (omega (arith, eqb-true 5 (code b) e, code_small b))
-opposite_means Right b e = sym (ap by_code (eqb-true 2 (code b) e) ∙ by_code_is b)
-opposite_means Left b e = sym (ap by_code (eqb-true 1 (code b) e) ∙ by_code_is b)
-opposite_means Up b e = sym (ap by_code (eqb-true 4 (code b) e) ∙ by_code_is b)
-opposite_means Down b e = sym (ap by_code (eqb-true 3 (code b) e) ∙ by_code_is b)
+opposite_means Right b e = sym (same_means Left b e)
+opposite_means Left b e = sym (same_means Right b e)
+opposite_means Up b e = sym (same_means Down b e)
+opposite_means Down b e = sym (same_means Up b e)
 
 opposite-told : (m b : Direction) → Opposite m b → opposite m b ≡ true
 opposite-told dir.None b e = absurd e
@@ -71,17 +59,17 @@ from_beyond x y h = grind (arith, ints)
 
 -- ---- partners
 
-module _ (r : Rule) (some : 0 < r.threshold) (a b : Segment) where
+module _ (r : Rule) (a b : Segment) where
   pub meets_partners : meets r a b ≡ true → Partners r a b
   meets_partners e =
       let p = and_parts (faces r a b) (leb r.threshold (overlap a b)) e in
       let q = and_parts (same a.dir r.major && opposite r.major b.dir) (lt_z a.pos.0 b.pos.0) p.0 in
       let s = and_parts (same a.dir r.major) (opposite r.major b.dir) q.0 in
       record {
-        of_major = same_true a.dir r.major s.0;
+        of_major = same_means a.dir r.major s.0;
         of_opposite = opposite_means r.major b.dir s.1;
         beyond = beyond_from a.pos.0 b.pos.0 q.1;
-        overlapping = clip_up (int_min a.max_coord.0 b.max_coord.0 -ℤ int_max a.min_coord.0 b.min_coord.0) r.threshold some (leb-true r.threshold (overlap a b) p.1);
+        overlapping = clip_up (int_min a.max_coord.0 b.max_coord.0 -ℤ int_max a.min_coord.0 b.min_coord.0) r.threshold r.some_overlap (leb-true r.threshold (overlap a b) p.1);
       }
 
   pub partners_meets : Partners r a b → meets r a b ≡ true
@@ -107,11 +95,11 @@ module _ (r : Rule) (some : 0 < r.threshold) (a b : Segment) where
       (λ (e : same b.dir r.major ≡ false). e)
       (cases_Bool (same b.dir r.major))
 
-module _ (r : Rule) (some : 0 < r.threshold) (g : ℕ → Segment) (i k : ℕ) where
+module _ (r : Rule) (g : ℕ → Segment) (i k : ℕ) where
   -- the score of partners is the one by the rule
   pub partners_score : (s : ℕ) → PartnersAt r (g i) (g k) s → score r g i k ≡ s
-  partners_score s (inl h) = cond-true (same (g i).dir r.major) (price r (g i) (g k)) (price r (g k) (g i)) (eq-eqb (code (g i).dir) (code r.major) (ap code h.0.of_major)) ∙ price-cost r some (g i) (g k) h.0 ∙ sym h.1
-  partners_score s (inr h) = cond-false (same (g i).dir r.major) (price r (g i) (g k)) (price r (g k) (g i)) (second_minor r some (g k) (g i) h.0) ∙ price-cost r some (g k) (g i) h.0 ∙ sym h.1
+  partners_score s (inl h) = cond-true (same (g i).dir r.major) (price r (g i) (g k)) (price r (g k) (g i)) (eq-eqb (code (g i).dir) (code r.major) (ap code h.0.of_major)) ∙ price-cost r (g i) (g k) h.0 ∙ sym h.1
+  partners_score s (inr h) = cond-false (same (g i).dir r.major) (price r (g i) (g k)) (price r (g k) (g i)) (second_minor r (g k) (g i) h.0) ∙ price-cost r (g k) (g i) h.0 ∙ sym h.1
 
   -- whoever scores below 32000 is a partner
   pub score_partners : score r g i k < 32000 → PartnersAt r (g i) (g k) (score r g i k)
@@ -119,10 +107,10 @@ module _ (r : Rule) (some : 0 < r.threshold) (g : ℕ → Segment) (i k : ℕ) w
       ⊎_elim
       (λ (e : same (g i).dir r.major ≡ true).
       let q : score r g i k ≡ price r (g i) (g k) = cond-true (same (g i).dir r.major) (price r (g i) (g k)) (price r (g k) (g i)) e in
-      let two = cost-price r some (g i) (g k) (omega (arith, q)) in inl (two.0, q ∙ two.1))
+      let two = cost-price r (g i) (g k) (omega (arith, q)) in inl (two.0, q ∙ two.1))
       (λ (e : same (g i).dir r.major ≡ false).
       let q : score r g i k ≡ price r (g k) (g i) = cond-false (same (g i).dir r.major) (price r (g i) (g k)) (price r (g k) (g i)) e in
-      let two = cost-price r some (g k) (g i) (omega (arith, q)) in inr (two.0, q ∙ two.1))
+      let two = cost-price r (g k) (g i) (omega (arith, q)) in inr (two.0, q ∙ two.1))
       (cases_Bool (same (g i).dir r.major))
 
 -- partners are so either way round
@@ -132,26 +120,25 @@ partners_back r a b s (inr h) = inl h
 
 -- ---- a choice in words
 
-pub best_chooses : (r : Rule) (some : 0 < r.threshold) (n : ℕ) (xs : List Segment) (i j : ℕ) → FirstBest (able (score r (at xs) i)) (ranked (score r (at xs) i)) n j → Chooses r n xs i j
-best_chooses r some n xs i j h =
-    let f = score r (at xs) i in
-    let below : f j < 32000 = ltb-true (f j) 32000 h.able in
-    record {
-      inside = h.inside;
-      scored = f j;
-      partner = score_partners r some (at xs) i j below;
-      below = below;
-      lowest = λ k s l p. let e = partners_score r some (at xs) i k s p in ⊎_elim (λ (q : f k < 32000). omega (arith, e, ltb-false (f k) (f j) (h.best k l (lt-ltb (f k) 32000 q)))) (λ (q : 32000 ≤ f k). omega (arith, e)) (cases_lt (f k) 32000);
-      first = λ k s l p. let e = partners_score r some (at xs) i k s p in ⊎_elim (λ (q : f k < 32000). omega (arith, e, ltb-true (f j) (f k) (h.first k l (lt-ltb (f k) 32000 q)))) (λ (q : 32000 ≤ f k). omega (arith, e)) (cases_lt (f k) 32000);
-    }
+module _ (r : Rule) (n : ℕ) (xs : List Segment) (i j : ℕ) where
+  pub lowest_chooses : FirstLowest (score r (at xs) i) n j → Chooses r n xs i j
+  lowest_chooses h = record {
+    inside = h.inside;
+    scored = score r (at xs) i j;
+    partner = score_partners r (at xs) i j h.below;
+    below = h.below;
+    lowest = λ k s l p. omega (arith, partners_score r (at xs) i k s p, h.lowest k l);
+    first = λ k s l p. omega (arith, partners_score r (at xs) i k s p, h.first k l);
+  }
 
-pub chooses_best : (r : Rule) (some : 0 < r.threshold) (n : ℕ) (xs : List Segment) (i j : ℕ) → Chooses r n xs i j → FirstBest (able (score r (at xs) i)) (ranked (score r (at xs) i)) n j
-chooses_best r some n xs i j h =
-    let f = score r (at xs) i in
-    let e : f j ≡ h.scored = partners_score r some (at xs) i j h.scored h.partner in
-    record {
-      inside = h.inside;
-      able = lt-ltb (f j) 32000 (omega (arith, e, h.below));
-      best = λ k l a. le-ltb (f k) (f j) (omega (arith, e, h.lowest k (f k) l (score_partners r some (at xs) i k (ltb-true (f k) 32000 a))));
-      first = λ k l a. lt-ltb (f j) (f k) (omega (arith, e, h.first k (f k) l (score_partners r some (at xs) i k (ltb-true (f k) 32000 a))));
-    }
+  -- whoever is no partner scores 32000, and more than a choice
+  pub chooses_lowest : Chooses r n xs i j → FirstLowest (score r (at xs) i) n j
+  chooses_lowest h =
+      let f = score r (at xs) i in
+      let e : f j ≡ h.scored = partners_score r (at xs) i j h.scored h.partner in
+      record {
+        inside = h.inside;
+        below = omega (arith, h.below);
+        lowest = λ k l. ⊎_elim (λ (q : f k < 32000). omega (arith, h.lowest k (f k) l (score_partners r (at xs) i k q))) (λ (q : 32000 ≤ f k). omega (arith, h.below)) (cases_lt (f k) 32000);
+        first = λ k l. ⊎_elim (λ (q : f k < 32000). omega (arith, h.first k (f k) l (score_partners r (at xs) i k q))) (λ (q : 32000 ≤ f k). omega (arith, h.below)) (cases_lt (f k) 32000);
+      }

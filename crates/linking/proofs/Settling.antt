@@ -1,10 +1,10 @@
 -- The last pass: links that are not returned go, in index order.
-use Rattle.std.proofs.Common.{◌≡◌, ℕ, ◌+◌, ◌<◌, ◌≤◌, true, false, cond, ◌||◌, eqb, ltb, ◌⊎◌, List, length, set, Some, None, Option, sym, refl, ap, ◌∙◌, subst, inl, inr, ⊎_elim, arith}
-use Rattle.std.proofs.lemmas.Bool.{lt-ltb, le-ltb, eq-eqb, ne_eqb, cases_eq, cases_lt, cases_Bool, both_ways, cond-true, cond-false, or_left, or_right, or_from}
+use Rattle.std.proofs.Common.{◌≡◌, ℕ, ◌+◌, ◌<◌, ◌≤◌, true, false, cond, ◌||◌, ltb, ◌⊎◌, List, length, set, Some, None, Option, sym, refl, ap, ◌∙◌, subst, inl, inr, ⊎_elim, arith}
+use Rattle.std.proofs.lemmas.Bool.{lt-ltb, le-ltb, eq-eqb, ne_eqb, cases_lt, cases_Bool, both_ways, cond-true, cond-false, or_left, or_right, or_from}
 use Rattle.std.proofs.lemmas.Bool.Decides.{nat_tests}
 use Rattle.segments.specs.declared.tables.Segment.{Segment}
 use Rattle.linking.specs.Choices.{at, holding}
-use Rattle.linking.proofs.Steps.{put, shows-set, shows_like}
+use Rattle.linking.proofs.Steps.{shows_set}
 use Rattle.linking.specs.Links.{picks, returned, paired, link_of, serif_by}
 use Rattle.linking.specs.Passes.{Shows, settled, held_choice, Unsettled, released, settling}
 
@@ -58,9 +58,10 @@ module _ (ch : ℕ → Option ℕ) (i t : ℕ) (w : Option ℕ) (e : ch i ≡ So
       (cases_lt t i)
 
 -- entry i after its turn
-pub settle_step : (n : ℕ) (xs : List Segment) (i : ℕ) (T : ℕ → Segment) → Unsettled n xs → i < n → ((k : ℕ) → k < n → T k ≡ cond (ltb k i) (settled (held_choice n xs) (at xs) k) (at xs k)) → released T i (T i).link ≡ settled (held_choice n xs) (at xs) i
-settle_step n xs i T u il h =
-    let ch = held_choice n xs in
+settle_step : (xs : List Segment) (i : ℕ) (T : ℕ → Segment) → Unsettled xs → i < length xs → ((k : ℕ) → k < length xs → T k ≡ settling xs i k) → released T i (T i).link ≡ settled (held_choice xs) (at xs) i
+settle_step xs i T u il h =
+    let n = length xs in
+    let ch = held_choice xs in
     let g = at xs i in
     let own : (k : ℕ) → k < n → ch k ≡ (at xs k).link = λ k l. cond-true (ltb k n) (at xs k).link None (lt-ltb k n l) in
     let ti : T i ≡ g = h i il ∙ cond-false (ltb i i) (settled ch (at xs) i) g (le-ltb i i (omega arith)) in
@@ -96,25 +97,11 @@ settle_step n xs i T u il h =
     (cases_Bool (picks (ch t) i)))
     (cases_option g.link)
 
-same-below : (i k : ℕ) → (k ≡ i → ⊥) → ltb k i ≡ ltb k (i + 1)
-same-below i k d = grind (arith, nat_tests)
-
-pub settle_more : (n : ℕ) (xs t t' : List Segment) (i : ℕ) → Unsettled n xs → i < n → n ≤ length xs → Shows xs n (settling n xs i) t → t' ≡ set t i (released (at t) i (at t i).link) → Shows xs n (settling n xs (i + 1)) t'
-settle_more n xs t t' i u il nl h e =
-    let v = released (at t) i (at t i).link in
-    let F = settling n xs i in
-    let G = settling n xs (i + 1) in
-    let here : v ≡ G i = settle_step n xs i (at t) u il h.front ∙ sym (cond-true (ltb i (i + 1)) (settled (held_choice n xs) (at xs) i) (at xs i) (lt-ltb i (i + 1) (omega arith))) in
-    subst (λ w. Shows xs n G w) (sym e)
-    (shows_like xs n (put F i v) G (set t i v)
-    (λ k l. ⊎_elim
-    (λ (q : k ≡ i). cond-true (eqb k i) v (F k) (eq-eqb k i q) ∙ here ∙ ap G (sym q))
-    (λ (q : k ≡ i → ⊥). cond-false (eqb k i) v (F k) (ne_eqb k i q) ∙ ap (λ b. cond b (settled (held_choice n xs) (at xs) k) (at xs k)) (same-below i k q))
-    (cases_eq k i))
-    (shows-set xs n F t i v il nl h))
-
-pub settling-none : (n : ℕ) (xs : List Segment) → Shows xs n (settling n xs 0) xs
-settling-none n xs = record { len = refl; front = λ k l. sym (cond-false (ltb k 0) (settled (held_choice n xs) (at xs) k) (at xs k) (le-ltb k 0 (omega arith))); rest = λ k l. refl }
-
-pub settling-all : (n : ℕ) (xs : List Segment) (k : ℕ) → k < n → settling n xs n k ≡ settled (held_choice n xs) (at xs) k
-settling-all n xs k l = cond-true (ltb k n) (settled (held_choice n xs) (at xs) k) (at xs k) (lt-ltb k n l)
+pub settle_more : (xs t t' : List Segment) (i : ℕ) → Unsettled xs → i < length xs → Shows (length xs) (settling xs i) t → t' ≡ set t i (released (at t) i (at t i).link) → Shows (length xs) (settling xs (i + 1)) t'
+settle_more xs t t' i u l h e =
+    let n = length xs in
+    let S = settled (held_choice xs) (at xs) in
+    subst (Shows n (settling xs (i + 1))) (sym e)
+    (shows_set n (settling xs i) (settling xs (i + 1)) t i (released (at t) i (at t i).link) l
+    (settle_step xs i (at t) u l h.each ∙ sym (cond-true (ltb i (i + 1)) (S i) (at xs i) (lt-ltb i (i + 1) (omega arith))))
+    (λ k kl q. ap (λ b. cond b (S k) (at xs k)) (grind (arith, nat_tests))) h)

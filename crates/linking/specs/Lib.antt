@@ -1,3 +1,4 @@
+pub mod Reverse
 pub mod Rules
 pub mod Choices
 pub mod Links

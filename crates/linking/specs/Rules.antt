@@ -1,13 +1,13 @@
 -- The linking rule, over two segments (af_latin_hints_link_segments).
-use Rattle.std.specs.Prelude.{ℕ, ◌+◌, ◌-◌, ◌*◌, ◌/◌, max, Bool, cond, ◌&&◌, ℤ, pos, negsuc, ◌-ℤ◌, Some, None, Option, ◌==◌, int_lt, nat_le, nat_lt}
+use Rattle.std.specs.Prelude.{◌≡◌, ℕ, ◌+◌, ◌-◌, ◌*◌, ◌/◌, ◌<◌, max, Bool, cond, ◌&&◌, ℤ, pos, negsuc, ◌-ℤ◌, Some, None, Option, ◌==◌, int_lt, nat_le, nat_lt}
 use Rattle.std.specs.Int.{int_min, int_max}
+use Rattle.std.proofs.Common.{refl, arith}
 use Rattle.outline.specs.declared.directions.Direction.{Direction}
-use Rattle.outline.specs.declared.directions.Direction.TheVariants as dir
-use Rattle.outline.specs.declared.directions.Direction.TheVariants.{Right, Left, Up, Down}
 use Rattle.outline.specs.declared.units.Settings.{Settings}
 use Rattle.outline.specs.Directions.{same, opposite}
 use Rattle.segments.specs.declared.tables.Segment.{Segment}
 use Rattle.linking.specs.declared.rules.Rule.{Rule}
+use Rattle.linking.specs.Reverse.{reverse}
 
 -- T, the least overlap of partners: the larger of 1 and 8 U / 2048
 abbrev pub overlap_threshold : ℕ → ℕ
@@ -17,20 +17,19 @@ overlap_threshold u = max 1 (8 * u / 2048)
 abbrev pub length_weight : ℕ → ℕ
 length_weight u = 6000 * u / 2048
 
+-- what a rule always keeps, each under a name, so that equal settings make equal rules
+pub never-zero : (u : ℕ) → 0 < overlap_threshold u
+never-zero u = omega arith
+
+pub other-way : (m : Direction) → reverse m ≡ reverse m
+other-way m = refl
+
 -- the rule at units u, the standard stem width w and the major direction m
 abbrev pub rule_of : ℕ → ℕ → Direction → Rule
-rule_of u w m = record { threshold = overlap_threshold u; weight = length_weight u; width = w; major = m }
+rule_of u w m = record { threshold = overlap_threshold u; weight = length_weight u; width = w; major = m; minor = reverse m; some_overlap = never-zero u; opposed = other-way m }
 
 abbrev pub rule_by : Settings → Direction → Rule
 rule_by s m = rule_of s.units s.width m
-
--- the other way along a direction's line
-abbrev pub reverse : Direction → Direction
-reverse dir.None = dir.None
-reverse Right = Left
-reverse Left = Right
-reverse Up = Down
-reverse Down = Up
 
 -- a difference, and 0 for a negative one
 abbrev pub clip : ℤ → ℕ

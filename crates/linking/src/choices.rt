@@ -1,86 +1,68 @@
 // What each segment chooses, found in place.
-ghost use Rattle.std.specs.Prelude.{◌≡◌, ◌+◌, ◌<◌, ◌≤◌, length, Some, None, slice_set};
-ghost use Rattle.linking.specs.Choices.{at as entry_at, ranks_before, holding as spec_holding};
-ghost use Rattle.linking.specs.Passes.{offered, exchanged, entry as choice_entry, stage, Shows};
+// `length ≤ 1001` stays a clause of each: a caller of a struct's method does not learn what is left in a slice lent to the struct.
+ghost use Rattle.std.specs.Prelude.{◌≡◌, ◌<◌, ◌≤◌, length, None};
+ghost use Rattle.linking.specs.Choices.{at as entry_at, holding};
+ghost use Rattle.linking.specs.Passes.{offered, met, entry as choice_entry, Passes, Shows};
+ghost use Rattle.linking.specs.Rules.{pair_score};
 
-use crate::partners::has_direction;
-use crate::rules::{MAX_SCORE, Rule};
-use segments::Segment;
+use crate::rules::Rule;
+use segments::{NO_SCORE, Segment};
 
-// The segment with another score, link and serif.
-pub fn holding(segment: Segment, score: u32, link: Option<u16>, serif: Option<u16>) -> Segment
-    ensures { result ≡ spec_holding segment score link serif }
+// A segment is offered a partner at a score, and stores it where the score is lower than its own: at an equal one the first one met stays.
+fn offer(segment: &mut Segment, to: u16, score: u32)
+    ensures { segment.new ≡ offered segment.old to score }
 {
-    Segment {
-        score,
-        link,
-        serif,
-        ..segment
-    }
-}
-
-// Whether a partner at `score` ranks before the one held: not at an equal score, so the first one met stays.
-fn beats(score: u32, held: u32) -> bool
-    ensures { result ≡ ranks_before score held }
-{
-    score < held
-}
-
-// Entry `at` is offered the partner `to` at a score, and stores it where it ranks before the one held.
-fn offer(table: &mut [Segment], at: usize, to: u16, score: u32)
-    requires { at < length table.old }
-    ensures { table.new ≡ slice_set table.old at (offered (entry_at table.old at) to score) }
-{
-    let segment = table[at];
-    if beats(score, segment.score) {
-        table[at] = holding(segment, score, Some(to), segment.serif);
+    if score < segment.score {
+        segment.score = score;
+        segment.link = Some(to);
     }
 }
 
 // The segments i and j meet: partners are offered each other.
-fn meet(table: &mut [Segment], i: usize, j: usize, score: Option<u32>)
-    requires { (i < length table.old) × (j < length table.old) × (i < 1001) × (j < 1001) }
-    ensures { table.new ≡ exchanged table.old i j score }
+fn meet(first: &mut Segment, second: &mut Segment, i: u16, j: u16, rule: &Rule)
+    ensures first { first.new ≡ met first.old j (pair_score rule.now first.old second.old) }
+    ensures second { second.new ≡ met second.old i (pair_score rule.now first.old second.old) }
 {
-    if let Some(score) = score {
-        offer(table, i, j as u16, score);
-        offer(table, j, i as u16, score);
+    if let Some(score) = rule.score(first, second) {
+        offer(first, j, score);
+        offer(second, i, score);
     }
 }
 
 // Old scores, links and serifs go.
-fn erase(table: &mut [Segment], n: usize)
-    requires { n ≤ length table.old }
-    ensures { Shows table.old n (λ k. spec_holding (entry_at table.old k) 32000 None None) table.new }
+fn erase(table: &mut [Segment])
+    ensures { Shows (length table.old) (λ k. holding (entry_at table.old k) 32000 None None) table.new }
 {
-    for i in 0..n {
-        table[i] = holding(table[i], MAX_SCORE, None, None);
+    for segment in table.iter_mut() {
+        segment.score = NO_SCORE;
+        segment.link = None;
+        segment.serif = None;
     }
 }
 
 // Segment i, if it is of the major direction, meets each segment.
-fn pass(table: &mut [Segment], n: usize, i: usize, rule: &Rule)
-    requires shows { Shows table.old n (stage rule.now (entry_at table.old) n i 0) table.old }
-    requires i_lt_n { (i < n) × (n ≤ length table.old) × (n ≤ 1001) × (0 < rule.now.threshold) }
-    ensures { Shows table.old n (stage rule.now (entry_at table.old) n (i + 1) 0) table.new }
+fn pass(table: &mut [Segment], i: usize, rule: &Rule)
+    requires { (i < length table.old) × (length table.old ≤ 1001) }
+    ensures { Passes rule.now i table.old table.new }
 {
-    let first = table[i];
-    if !has_direction(&first, rule.major) {
+    let mut first = table[i];
+    if first.dir != rule.major {
         return;
     }
-    for j in 0..n {
-        let score = rule.score(&first, &table[j]);
-        meet(table, i, j, score);
+    for (j, second) in table.iter_mut().enumerate() {
+        meet(&mut first, second, i as u16, j as u16, rule);
     }
+    table[i] = first;
 }
 
-// Every pass, after which each of the first n has its choice as its link, and its score.
-pub fn choose(table: &mut [Segment], n: usize, rule: &Rule)
-    requires { (n ≤ length table.old) × (n ≤ 1001) × (0 < rule.now.threshold) }
-    ensures { Shows table.old n (choice_entry rule.now (entry_at table.old) n) table.new }
+// Every pass, after which each has its choice as its link, and its score.
+pub fn choose(table: &mut [Segment], rule: &Rule)
+    requires { length table.old ≤ 1001 }
+    ensures { Shows (length table.old) (choice_entry rule.now (entry_at table.old) (length table.old)) table.new }
 {
-    erase(table, n);
-    for i in 0..n {
-        pass(table, n, i, rule);
+    erase(table);
+    // by index: each pass reads and writes the whole table
+    for i in 0..table.len() {
+        pass(table, i, rule);
     }
 }

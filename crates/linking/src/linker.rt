@@ -10,13 +10,10 @@ ghost use Rattle.linking.specs.Tried.{Tried};
 use crate::rules::Rule;
 use crate::stems::link_by_rule;
 use outline::{Direction, Settings, SettingsFault};
-use segments::Segment;
-
-// The most segments that a reading holds.
-const MOST_ENTRIES: usize = 1001;
+use segments::{Segment, TABLE_LEN};
 
 // Why a table is not linked.
-#[derive(Clone, Copy)]
+#[derive(Debug, Clone, Copy, PartialEq, Eq)]
 pub enum LinkFault {
     Settings(SettingsFault),
     TooManyEntries,
@@ -32,7 +29,7 @@ impl From<SettingsFault> for LinkFault {
 }
 
 impl LinkFault {
-    // The number of the refusal.
+    // The number of the refusal. By a match: two share 16, and one has the number of what it holds.
     pub fn number(self) -> u8
         ensures { result ≡ number self }
     {
@@ -44,17 +41,18 @@ impl LinkFault {
     }
 }
 
-// Scores and links the first n entries, at checked settings.
+// Scores and links the first n entries, at checked settings; n stands beside the table, as it does in `link`.
 pub fn link_segments(table: &mut [Segment], n: usize, settings: &Settings, major: Direction)
     requires { (n ≤ length table.old) × (n ≤ 1001) }
     ensures table { table.new ≡ linked_table (rule_by settings.now major) n table.old }
     ensures linking { Linking (rule_by settings.now major) n table.old table.new }
 {
     let rule = Rule::new(settings, major);
-    link_by_rule(table, n, &rule);
+    link_by_rule(&mut table[..n], &rule);
 }
 
 // Scores and links the first n entries; a refusal leaves the table as it was.
+// No slice in place of n: that n lies past the table's end is one of the refusals.
 pub fn link(
     table: &mut [Segment],
     n: usize,
@@ -67,7 +65,7 @@ pub fn link(
     ensures linking { result ≡ Ok tt → Linking (rule_of units width major) n table.old table.new }
 {
     let settings = Settings::new(units, width)?;
-    if n > MOST_ENTRIES {
+    if n > TABLE_LEN {
         return Err(LinkFault::TooManyEntries);
     }
     if n > table.len() {
@@ -78,8 +76,6 @@ pub fn link(
 }
 
 // The tried values stand.
-pub fn tried_stands() -> u8
+pub fn tried_stands()
     ensures { Tried }
-{
-    0
-}
+{}

@@ -9,9 +9,10 @@ use linking::link;
 use outline::Direction;
 use segments::{Coordinate, Position, Segment};
 use std::alloc::{AllocError, Global};
-use std::fmt;
 use std::io::{BufRead, BufReader};
+use telling::OrDash;
 
+// A word of no direction is None, so there is nothing to parse that can fail.
 fn direction(word: &str) -> Direction {
     match word {
         "right" => Direction::Right,
@@ -27,56 +28,36 @@ fn stale_entry(dir: Direction, pos: i16, least: i16, greatest: i16) -> Segment {
     Segment {
         dir,
         pos: Position(pos),
-        delta: 0,
         min_coord: Coordinate(least),
         max_coord: Coordinate(greatest),
-        height: 0,
-        round: false,
         score: 5,
         link: Some(7),
         serif: Some(9),
-        first: 0,
-        last: 0,
+        ..Segment::blank()
     }
 }
 
 fn read_entries(heap: Global, words: &[&str]) -> anyhow::Result<Vec<Segment>> {
     let mut table = Vec::new(heap);
-    for entry in words.chunks_exact(4) {
-        if let [dir, pos, least, greatest] = entry {
-            let segment = stale_entry(
-                direction(dir),
-                pos.parse()?,
-                least.parse()?,
-                greatest.parse()?,
-            );
-            table.push(segment)?;
-        }
+    let (entries, _) = words.as_chunks::<4>();
+    for [dir, pos, least, greatest] in entries {
+        table.push(stale_entry(
+            direction(dir),
+            pos.parse()?,
+            least.parse()?,
+            greatest.parse()?,
+        ))?;
     }
     Ok(table)
-}
-
-// An index into the table, or a dash.
-#[derive(Clone, Copy)]
-struct Index(Option<u16>);
-
-impl fmt::Display for Index {
-    fn fmt<W: fmt::Write>(&self, f: &mut fmt::Formatter<W>) -> fmt::Result {
-        match self.0 {
-            Some(index) => write!(f, "{index}"),
-            None => write!(f, "-"),
-        }
-    }
 }
 
 fn linked_text(heap: Global, table: &[Segment]) -> Result<String, AllocError> {
     let mut text = String::new(heap);
     for segment in table {
         let score = segment.score;
-        let link = Index(segment.link);
-        let serif = Index(segment.serif);
-        let entry = format!(in heap; "{score} {link} {serif} ")?;
-        text.push_str(entry.as_str())?;
+        let link = OrDash(segment.link);
+        let serif = OrDash(segment.serif);
+        write!(text, "{score} {link} {serif} ")?;
     }
     Ok(text)
 }

@@ -1,3 +1,4 @@
 pub mod Directions
 pub mod Corners
 pub mod Units
+pub mod Words

@@ -1,5 +1,5 @@
 // Corner rules: whether a corner is so flat that its point is weak.
-ghost use Rattle.std.specs.Prelude.{◌≡◌, ℕ, ◌+◌, ◌^◌, ◌≤◌, Bool, ℤ, pos, ◌+ℤ◌, unsigned_abs};
+ghost use Rattle.std.specs.Prelude.{◌≡◌, ℕ, ◌^◌, ◌≤◌, Bool, ℤ, unsigned_abs};
 ghost use Rattle.outline.specs.Corners.{flat_by, hardly_longer, taxicab, octagonal};
 
 pub trait CornerRule {
@@ -11,48 +11,41 @@ pub trait CornerRule {
 }
 
 // ttfautohint's rule, by the taxicab length.
-#[derive(Clone, Copy)]
+#[derive(Debug, Clone, Copy)]
 pub struct Aot;
 
 // FreeType's rule, by an octagonal length.
-#[derive(Clone, Copy)]
+#[derive(Debug, Clone, Copy)]
 pub struct Jit;
 
-fn taxicab_length(x: i64, y: i64) -> u64
-    requires { (unsigned_abs x ≤ 2 ^ 32) × (unsigned_abs y ≤ 2 ^ 32) }
-    ensures value { result ≡ taxicab x y }
-    ensures bound { result ≤ 2 ^ 34 }
-{
-    x.unsigned_abs() + y.unsigned_abs()
+// A length of vectors.
+trait Length {
+    ghost of_vector: { ℤ → ℤ → ℕ };
+
+    fn length(x: i64, y: i64) -> u64
+        requires { (unsigned_abs x ≤ 2 ^ 32) × (unsigned_abs y ≤ 2 ^ 32) }
+        ensures value { result ≡ of_vector x y }
+        ensures bound { result ≤ 2 ^ 34 };
 }
 
-fn octagonal_length(x: i64, y: i64) -> u64
-    requires { (unsigned_abs x ≤ 2 ^ 32) × (unsigned_abs y ≤ 2 ^ 32) }
-    ensures value { result ≡ octagonal x y }
-    ensures bound { result ≤ 2 ^ 34 }
-{
-    let x = x.unsigned_abs();
-    let y = y.unsigned_abs();
-    if x > y {
-        x + ((3 * y) >> 3)
-    } else {
-        y + ((3 * x) >> 3)
+impl Length for Aot {
+    ghost of_vector = { taxicab };
+
+    #[tactic(auto, unfolding(crate::specs::Corners::taxicab))]
+    fn length(x: i64, y: i64) -> u64 {
+        x.unsigned_abs() + y.unsigned_abs()
     }
 }
 
-// Widened, so that no four numbers make a length wrap.
-fn wide(a: i32) -> i64
-    ensures value { result ≡ a }
-    ensures bound { unsigned_abs result ≤ 2 ^ 32 }
-{
-    a as i64
-}
+impl Length for Jit {
+    ghost of_vector = { octagonal };
 
-fn sum(a: i32, b: i32) -> i64
-    ensures value { result ≡ a +ℤ b }
-    ensures bound { unsigned_abs result ≤ 2 ^ 32 }
-{
-    a as i64 + b as i64
+    #[tactic(auto, unfolding(crate::specs::Corners::octagonal))]
+    fn length(x: i64, y: i64) -> u64 {
+        let x = x.unsigned_abs();
+        let y = y.unsigned_abs();
+        x.max(y) + ((3 * x.min(y)) >> 3)
+    }
 }
 
 fn is_hardly_longer(d_in: u64, d_out: u64, d_corner: u64) -> bool
@@ -62,14 +55,23 @@ fn is_hardly_longer(d_in: u64, d_out: u64, d_corner: u64) -> bool
     d_in + d_out < d_corner + (d_corner >> 4)
 }
 
+// Whether a corner is flat by such a length. Widened, so that no four numbers make one wrap.
+fn is_flat_by<L: Length>(in_x: i32, in_y: i32, out_x: i32, out_y: i32) -> bool
+    ensures { result ≡ flat_by L.of_vector in_x in_y out_x out_y }
+{
+    let (in_x, in_y, out_x, out_y) = (in_x as i64, in_y as i64, out_x as i64, out_y as i64);
+    let d_in = L::length(in_x, in_y);
+    let d_out = L::length(out_x, out_y);
+    let d_corner = L::length(in_x + out_x, in_y + out_y);
+    is_hardly_longer(d_in, d_out, d_corner)
+}
+
+// Two impls: one for each type with a length would leave no room for rules of other crates.
 impl CornerRule for Aot {
     ghost flat = { λ _. flat_by taxicab };
 
     fn is_flat(&self, in_x: i32, in_y: i32, out_x: i32, out_y: i32) -> bool {
-        let d_in = taxicab_length(wide(in_x), wide(in_y));
-        let d_out = taxicab_length(wide(out_x), wide(out_y));
-        let d_corner = taxicab_length(sum(in_x, out_x), sum(in_y, out_y));
-        is_hardly_longer(d_in, d_out, d_corner)
+        is_flat_by::<Self>(in_x, in_y, out_x, out_y)
     }
 }
 
@@ -77,9 +79,6 @@ impl CornerRule for Jit {
     ghost flat = { λ _. flat_by octagonal };
 
     fn is_flat(&self, in_x: i32, in_y: i32, out_x: i32, out_y: i32) -> bool {
-        let d_in = octagonal_length(wide(in_x), wide(in_y));
-        let d_out = octagonal_length(wide(out_x), wide(out_y));
-        let d_corner = octagonal_length(sum(in_x, out_x), sum(in_y, out_y));
-        is_hardly_longer(d_in, d_out, d_corner)
+        is_flat_by::<Self>(in_x, in_y, out_x, out_y)
     }
 }

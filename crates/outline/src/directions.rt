@@ -2,8 +2,10 @@
 ghost use Rattle.std.specs.Prelude.{◌≡◌, Decides};
 ghost use Rattle.outline.specs.Directions.{direction, opposite, Opposite, same_axis, SameAxis};
 
-#[derive(Clone, Copy, PartialEq, Eq)]
+// `None` stays a variant: it is skrifa's and FreeType's name, and lies on one axis with itself alone.
+#[derive(Debug, Clone, Copy, PartialEq, Eq, Default)]
 pub enum Direction {
+    #[default]
     None,
     Right,
     Left,
@@ -48,13 +50,13 @@ impl Direction {
         ensures value { result ≡ opposite self other }
         ensures means { Decides result (Opposite self other) }
     {
-        match (self, other) {
-            (Direction::Right, Direction::Left)
-            | (Direction::Left, Direction::Right)
-            | (Direction::Up, Direction::Down)
-            | (Direction::Down, Direction::Up) => true,
-            _ => false,
-        }
+        matches!(
+            (self, other),
+            (Self::Right, Self::Left)
+                | (Self::Left, Self::Right)
+                | (Self::Up, Self::Down)
+                | (Self::Down, Self::Up)
+        )
     }
 
     // Whether the two lie on one line; None lies on a line with None alone.
@@ -62,11 +64,11 @@ impl Direction {
         ensures value { result ≡ same_axis self other }
         ensures means { Decides result (SameAxis self other) }
     {
-        match (self, other) {
-            (Direction::Right | Direction::Left, Direction::Right | Direction::Left)
-            | (Direction::Up | Direction::Down, Direction::Up | Direction::Down)
-            | (Direction::None, Direction::None) => true,
-            _ => false,
-        }
+        matches!(
+            (self, other),
+            (Self::Right | Self::Left, Self::Right | Self::Left)
+                | (Self::Up | Self::Down, Self::Up | Self::Down)
+                | (Self::None, Self::None)
+        )
     }
 }

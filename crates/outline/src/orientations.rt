@@ -1,5 +1,5 @@
 // The way round that an outline is drawn, seen with y upwards.
-#[derive(Clone, Copy, PartialEq, Eq)]
+#[derive(Debug, Clone, Copy, PartialEq, Eq)]
 pub enum Orientation {
     Clockwise,
     CounterClockwise,

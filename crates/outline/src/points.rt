@@ -1,14 +1,15 @@
 // Points of an outline, in font units.
 use crate::directions::Direction;
 
-#[derive(Clone, Copy, PartialEq, Eq)]
+#[derive(Debug, Clone, Copy, PartialEq, Eq, Default)]
 pub enum PointKind {
+    #[default]
     Control,
     OnCurve,
 }
 
 // A point as it is drawn. Both numbers of a point that was placed lie in -16,383 to 16,383.
-#[derive(Clone, Copy)]
+#[derive(Debug, Clone, Copy, PartialEq, Eq)]
 pub struct DrawnPoint {
     pub x: i16,
     pub y: i16,
@@ -16,7 +17,7 @@ pub struct DrawnPoint {
 }
 
 // A point's kind, and the two marks that the analysis sets.
-#[derive(Clone, Copy)]
+#[derive(Debug, Clone, Copy, PartialEq, Eq, Default)]
 pub struct PointFlags {
     pub kind: PointKind,
     pub near: bool,
@@ -24,8 +25,8 @@ pub struct PointFlags {
 }
 
 // A point's record: what was drawn, and what the analysis of its contour found.
-// The neighbours are indices into the whole outline.
-#[derive(Clone, Copy)]
+// The neighbours are indices into the whole outline, as a record is copied out and takes no memory.
+#[derive(Debug, Clone, Copy, PartialEq, Eq, Default)]
 pub struct Point {
     pub flags: PointFlags,
     pub x: i16,

@@ -35,6 +35,16 @@ module _ (flat : ℤ → ℤ → ℤ → ℤ → Bool) where
   read_table units width dim cs size =
       linked_table (axis_rule units width dim cs) (length (drawn_segments flat dim units 0 cs)) (built_table units dim cs size)
 
+  -- the table after building: left as it was if it is too short, blank if too many segments open, else with the segments
+  abbrev pub table_built : ℕ → Dimension → Contours → List Segment → List Segment
+  table_built units dim cs t =
+      cond (nat_lt (length t) 1001) t (cond (crowded flat dim units 0 cs) (blanks (length t)) (built_table units dim cs (length t)))
+
+  -- what building the contours' segments answers, and what it leaves in the table t
+  pub record Builds (units : ℕ) (dim : Dimension) (cs : Contours) (t : List Segment) (r : Result ℕ ReadFault) (t' : List Segment) : Type 0 where
+    pub answers : r ≡ answer units dim cs (length t)
+    pub leaves : t' ≡ table_built units dim cs t
+
   -- the table after a reading: left as it was if it is too short, blank if too many segments open, else with the linked segments
   abbrev pub table_after : ℕ → ℕ → Dimension → Contours → List Segment → List Segment
   table_after units width dim cs t =

@@ -13,9 +13,14 @@ use Rattle.linking.specs.Rules.{rule_by}
 use Rattle.reading.specs.declared.faults.ReadFault.{ReadFault}
 use Rattle.reading.specs.declared.faults.ReadFault.TheVariants.{TableTooShort, Build}
 
--- the records' segments, linked at the settings and the axis's major direction; or 17
+-- the records' segments, or 17
+abbrev pub Built : Dimension → ℕ → List Point → List Contour → List Segment → List Segment → Result ℕ ReadFault → Type 0
+Built dim units ps cs t t' (Ok n) = Read dim units ps cs t t' (Ok n)
+Built dim units ps cs t t' (Err (Build f)) = Read dim units ps cs t t' (Err f)
+Built dim units ps cs t t' (Err TableTooShort) = ⊥
+
+-- the same, with the segments linked at the settings and the axis's major direction
 abbrev pub Linked : Dimension → Settings → Option Orientation → List Point → List Contour → List Segment → List Segment → Result ℕ ReadFault → Type 0
 Linked dim s o ps cs t t' (Ok n) =
-    (built : List Segment) × Read dim s.units ps cs t built (Ok n) × (t' ≡ linked_table (rule_by s (major dim o)) n built)
-Linked dim s o ps cs t t' (Err (Build f)) = Read dim s.units ps cs t t' (Err f)
-Linked dim s o ps cs t t' (Err TableTooShort) = ⊥
+    (built : List Segment) × Built dim s.units ps cs t built (Ok n) × (t' ≡ linked_table (rule_by s (major dim o)) n built)
+Linked dim s o ps cs t t' (Err f) = Built dim s.units ps cs t t' (Err f)

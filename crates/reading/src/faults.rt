@@ -12,7 +12,7 @@ pub enum ReadFault {
 }
 
 impl ReadFault {
-    // The number of the refusal.
+    // The number of the refusal. By a match: one has the number of what it holds.
     pub fn number(&self) -> u8
         ensures { result ≡ read_number self.now }
     {

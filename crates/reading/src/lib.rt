@@ -1,8 +1,8 @@
-// Reading the segments of analysed contours along an axis: built, and then linked.
+// Reading the segments of an analysed outline along an axis: built, and then linked.
 #![tactic(auto)]
 
 mod faults;
-mod readings;
+mod outlines;
 
 pub use faults::ReadFault;
-pub use readings::read_segments;
+pub use outlines::Outline;

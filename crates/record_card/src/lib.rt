@@ -3,6 +3,8 @@
 
 mod records;
 mod refusals;
+mod rooms;
 
 pub use records::{read_card, stem_card};
 pub use refusals::{NoCard, Refusal};
+pub use rooms::CardRoom;

@@ -1,82 +1,151 @@
 // From the bytes of a drawing record to what is printed of them.
-ghost use Rattle.std.specs.Prelude.{◌≡◌, drop, IfOk, vec_items, string_bytes};
-ghost use Rattle.unscaled.specs.Records.{Values, entries};
-ghost use Rattle.sheet.specs.Books.{book};
-ghost use Rattle.sheet.specs.Placing.{Contours, placed};
-ghost use Rattle.record_card.specs.Agreements.{Agrees, OutlineOf, values_of};
-ghost use Rattle.record_card.specs.Printed.{axis, contours_card, of_edit, record_card, printed};
+ghost use Rattle.std.specs.Prelude.{◌≡◌, ◌≤◌, length, drop, IfOk, string_bytes, string_capacity};
+ghost use Rattle.unscaled.specs.Records.{entries};
+ghost use Rattle.card.specs.Cards.{card_text, refused_words};
+ghost use Rattle.card.specs.Lines.{line_of};
+ghost use Rattle.sheet.specs.Sheets.{contours_of, terms, Analysed, Fresh};
+ghost use Rattle.record_card.specs.Agreements.{Agrees};
+ghost use Rattle.record_card.specs.Refusals.{number};
+ghost use Rattle.record_card.specs.Printed.{read_by, contours_card, points_card, record_card, printed};
 
-use crate::refusals::NoCard;
-use card::{card_text, refused_text};
-use outline::{Aot, Jit};
-use segments::{Dimension, Segment, TABLE_LEN};
-use sheet::{Drawing, Outline};
+use crate::refusals::{NoCard, Refusal};
+use crate::rooms::{CardRoom, ReadingRoom};
+use card::{Card, refused_into, refused_text};
+use outline::CornerRule;
+use segments::{Dimension, Segment};
+use sheet::{Sheet, SheetRoom};
 use std::alloc::{AllocError, Global};
-use unscaled::{CornerCode, Header, RecordPoints};
+use unscaled::{Header, RecordPoints};
 
-// The record's points, placed on an empty sheet.
-fn record_drawing(heap: Global, bytes: &[u8]) -> Result<Drawing, NoCard>
-    ensures { Agrees result book (of_edit (placed 0 0 (entries (drop 8 bytes.now)))) }
+// The text of a card, where there is room for it.
+fn text_in(room: String, card: &Card<'_>) -> String
+    requires horizontal { length card.now.horizontal.now ≤ 1001 }
+    requires vertical { length card.now.vertical.now ≤ 1001 }
+    requires room { 192384 ≤ string_capacity room }
+    ensures { string_bytes result ≡ card_text card.now }
 {
-    let mut drawing = Drawing::new(heap)?;
-    drawing.draw(&RecordPoints::of_record(bytes))?;
-    Ok(drawing)
-}
-
-// The drawing, analysed by the corner rule that the header names.
-fn analyze(heap: Global, header: Header, drawing: Drawing) -> Result<Outline, AllocError>
-    ensures { IfOk result (λ o. OutlineOf (values_of header) (book drawing) o) }
-{
-    match header.corner {
-        CornerCode::Jit => Outline::analyze(heap, &Jit, header.settings, drawing),
-        CornerCode::Aot => Outline::analyze(heap, &Aot, header.settings, drawing),
+    match card.text_into(room) {
+        Ok(text) => text,
+        Err(_) => unreachable(),
     }
 }
 
-// The finished segments of an axis.
-fn read_axis(heap: Global, outline: &Outline, dim: Dimension) -> Result<Vec<Segment>, NoCard>
-    ensures { (v : Values) (cs : Contours) → OutlineOf v cs outline.now → Agrees result vec_items (axis v dim cs) }
+// The text of a refusal, where there is room for it.
+fn refusal_in(room: String, refusal: Refusal) -> String
+    requires { 96 ≤ string_capacity room }
+    ensures { string_bytes result ≡ line_of (refused_words (number refusal)) }
 {
-    let mut table = vec![in heap; Segment::blank(); TABLE_LEN]?;
-    let count = outline.read(dim, &mut table)?;
-    table.truncate(count);
-    Ok(table)
+    match refused_into(room, refusal.number()) {
+        Ok(text) => text,
+        Err(_) => unreachable(),
+    }
 }
 
-// The card of an outline. Both axes are read before any text is made.
-fn outline_card(heap: Global, outline: &Outline) -> Result<String, NoCard>
-    ensures { (v : Values) (cs : Contours) → OutlineOf v cs outline.now → Agrees result string_bytes (contours_card v cs) }
+// The card of a sheet. Both axes are read before any text is made.
+fn sheet_card<R: CornerRule>(
+    sheet: &Sheet<R>,
+    horizontal: &mut [Segment],
+    vertical: &mut [Segment],
+    text: String,
+) -> Result<String, Refusal>
+    requires horizontal { length horizontal.old ≡ 1001 }
+    requires vertical { length vertical.old ≡ 1001 }
+    requires text { 192384 ≤ string_capacity text }
+    ensures { Analysed R.CornerRule.flat sheet.now → read_by string_bytes result ≡ contours_card (terms R.CornerRule.flat sheet.now) (contours_of sheet.now) }
 {
-    let horizontal = read_axis(heap, outline, Dimension::Horizontal)?;
-    let vertical = read_axis(heap, outline, Dimension::Vertical)?;
-    let text = card_text(
-        heap,
-        outline.point_count(),
-        outline.contour_count(),
-        outline.orientation(),
-        horizontal.as_slice(),
-        vertical.as_slice(),
-    )?;
-    Ok(text)
+    let across = sheet.read(Dimension::Horizontal, horizontal)?;
+    let along = sheet.read(Dimension::Vertical, vertical)?;
+    let card = Card {
+        points: sheet.point_count(),
+        contours: sheet.contour_count(),
+        orientation: sheet.orientation(),
+        horizontal: &horizontal[..across],
+        vertical: &vertical[..along],
+    };
+    Ok(text_in(text, &card))
+}
+
+impl ReadingRoom {
+    // The card of a sheet.
+    fn card<R: CornerRule>(self, sheet: &Sheet<R>) -> Result<String, Refusal>
+        ensures { Analysed R.CornerRule.flat sheet.now → read_by string_bytes result ≡ contours_card (terms R.CornerRule.flat sheet.now) (contours_of sheet.now) }
+    {
+        let ReadingRoom {
+            mut horizontal,
+            mut vertical,
+            text,
+        } = self;
+        sheet_card(sheet, &mut horizontal, &mut vertical, text)
+    }
+}
+
+// The card of a record's points, placed on an empty sheet.
+fn place_card<R: CornerRule + Drop>(
+    sheet: Sheet<R>,
+    readings: ReadingRoom,
+    bytes: &[u8],
+) -> Result<String, Refusal>
+    ensures { Fresh R.CornerRule.flat sheet → read_by string_bytes result ≡ points_card (terms R.CornerRule.flat sheet) (entries (drop 8 bytes.now)) }
+{
+    let mut sheet = sheet;
+    sheet.place(&RecordPoints::of_record(bytes))?;
+    readings.card(&sheet)
 }
 
 // The card of a record.
+fn card_of(room: SheetRoom, readings: ReadingRoom, bytes: &[u8]) -> Result<String, Refusal>
+    ensures { read_by string_bytes result ≡ record_card bytes.now }
+{
+    let header = Header::read(bytes)?;
+    let sheet = Sheet::in_room(room, header.settings, header.corner);
+    place_card(sheet, readings, bytes)
+}
+
+impl CardRoom {
+    // The card of a record, or why it has none.
+    pub fn read_card(self, bytes: &[u8]) -> Result<String, Refusal>
+        ensures { read_by string_bytes result ≡ record_card bytes.now }
+    {
+        let CardRoom {
+            sheet,
+            readings,
+            refusal: _,
+        } = self;
+        card_of(sheet, readings, bytes)
+    }
+
+    // The card of a record, or the text of its refusal.
+    pub fn stem_card(self, bytes: &[u8]) -> String
+        ensures { string_bytes result ≡ printed bytes.now }
+    {
+        let CardRoom {
+            sheet,
+            readings,
+            refusal,
+        } = self;
+        match card_of(sheet, readings, bytes) {
+            Ok(text) => text,
+            Err(fault) => refusal_in(refusal, fault),
+        }
+    }
+}
+
+// The card of a record, or why it has none, in room of its own.
 pub fn read_card(heap: Global, bytes: &[u8]) -> Result<String, NoCard>
     ensures { Agrees result string_bytes (record_card bytes.now) }
 {
-    let header = Header::read(bytes)?;
-    let drawing = record_drawing(heap, bytes)?;
-    let outline = analyze(heap, header, drawing)?;
-    outline_card(heap, &outline)
+    // a record whose header is refused wants no room
+    Header::read(bytes).map_err(Refusal::from)?;
+    let card = CardRoom::new(heap)?.read_card(bytes)?;
+    Ok(card)
 }
 
-// The card of a record, or the text of its refusal.
+// The card of a record, or the text of its refusal, in room of its own.
 pub fn stem_card(heap: Global, bytes: &[u8]) -> Result<String, AllocError>
     ensures { IfOk result (λ s. string_bytes s ≡ printed bytes.now) }
 {
-    match read_card(heap, bytes) {
-        Ok(text) => Ok(text),
-        Err(NoCard::Refused(refusal)) => refused_text(heap, refusal.number()),
-        Err(NoCard::Memory(e)) => Err(e),
+    match Header::read(bytes) {
+        Ok(_) => Ok(CardRoom::new(heap)?.stem_card(bytes)),
+        Err(fault) => refused_text(heap, Refusal::from(fault).number()),
     }
 }

@@ -4,7 +4,8 @@ ghost use Rattle.record_card.specs.Refusals.{number};
 ghost use Rattle.record_card.specs.declared.refusals.Refusal.TheVariants.{Record as OfRecord, Edit as OfEdit, Read as OfRead};
 ghost use Rattle.record_card.specs.declared.refusals.NoCard.TheVariants.{Refused as NotGranted, Memory as NoMemory};
 
-use sheet::{EditFault, ReadFault};
+use drawing::EditFault;
+use reading::ReadFault;
 use std::alloc::AllocError;
 use unscaled::RecordFault;
 
@@ -17,7 +18,7 @@ pub enum Refusal {
 }
 
 impl Refusal {
-    // The number that is printed.
+    // The number that is printed. By a match: each has the number of what it holds.
     pub fn number(&self) -> u8
         ensures { result ≡ number self.now }
     {
@@ -29,6 +30,30 @@ impl Refusal {
     }
 }
 
+impl From<RecordFault> for Refusal {
+    ghost from_gives = { λ fault r. r ≡ OfRecord fault };
+
+    fn from(fault: RecordFault) -> Refusal {
+        Refusal::Record(fault)
+    }
+}
+
+impl From<EditFault> for Refusal {
+    ghost from_gives = { λ fault r. r ≡ OfEdit fault };
+
+    fn from(fault: EditFault) -> Refusal {
+        Refusal::Edit(fault)
+    }
+}
+
+impl From<ReadFault> for Refusal {
+    ghost from_gives = { λ fault r. r ≡ OfRead fault };
+
+    fn from(fault: ReadFault) -> Refusal {
+        Refusal::Read(fault)
+    }
+}
+
 // A refusal, or want of memory.
 #[derive(Clone, Copy)]
 pub enum NoCard {
@@ -36,27 +61,11 @@ pub enum NoCard {
     Memory(AllocError),
 }
 
-impl From<RecordFault> for NoCard {
-    ghost from_gives = { λ fault r. r ≡ NotGranted (OfRecord fault) };
+impl From<Refusal> for NoCard {
+    ghost from_gives = { λ refusal r. r ≡ NotGranted refusal };
 
-    fn from(fault: RecordFault) -> NoCard {
-        NoCard::Refused(Refusal::Record(fault))
-    }
-}
-
-impl From<EditFault> for NoCard {
-    ghost from_gives = { λ fault r. r ≡ NotGranted (OfEdit fault) };
-
-    fn from(fault: EditFault) -> NoCard {
-        NoCard::Refused(Refusal::Edit(fault))
-    }
-}
-
-impl From<ReadFault> for NoCard {
-    ghost from_gives = { λ fault r. r ≡ NotGranted (OfRead fault) };
-
-    fn from(fault: ReadFault) -> NoCard {
-        NoCard::Refused(Refusal::Read(fault))
+    fn from(refusal: Refusal) -> NoCard {
+        NoCard::Refused(refusal)
     }
 }
 

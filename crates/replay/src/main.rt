@@ -1,28 +1,20 @@
 // Runs stored drawing records, and compares every value with the answers stored beside them.
 #![tactic(auto)]
 
-mod digits;
-mod lines;
+mod reports;
 mod stored;
-mod tallies;
 mod texts;
-mod words;
 
-use digits::from_hex;
+use reports::report;
 use std::io::{BufRead, BufReader};
 use std::{env, io};
 use stored::Stored;
-use tallies::Tally;
+use telling::{Tally, from_hex};
 use texts::record_text;
 
 // Whether the program is asked to print answers, rather than to compare stored ones.
 fn asks_to_print(rt: &HostRuntime) -> io::Result<bool> {
-    for word in env::args(rt)? {
-        if word.as_str() == "--print" {
-            return Ok(true);
-        }
-    }
-    Ok(false)
+    Ok(env::args(rt)?.any(|word| word.as_str() == "--print"))
 }
 
 // Prints the answer to each line of hexadecimal digits.
@@ -40,11 +32,11 @@ fn print_answers(rt: &HostRuntime) -> io::Result<()> {
 fn compare_answers(rt: &HostRuntime) -> io::Result<()> {
     let heap = rt.alloc();
     let mut stored = Stored::new(heap);
-    let mut tally = Tally::new(heap);
+    let mut tally = Tally::new(heap, "record");
     for line in BufReader::new(heap, rt.stdin())?.lines(heap) {
         stored.take_line(heap, line?.as_str(), &mut tally)?;
     }
-    rt.print(tally.report(heap)?)
+    rt.print(report(heap, &tally)?)
 }
 
 fn main(rt: HostRuntime) -> io::Result<()> {

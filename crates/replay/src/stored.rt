@@ -1,10 +1,11 @@
 // Stored records: a line `record` with the bytes as hexadecimal digits, the lines of the answer, and a
 // line `end`.
-use crate::digits::from_hex;
-use crate::tallies::Tally;
+ghost use Rattle.std.specs.Prelude.{◌≡◌, ◌+◌, ◌-◌, ◌^◌, min, string_bytes, OnOk};
+
 use crate::texts::record_text;
 use std::alloc::Global;
 use std::io;
+use telling::{Tally, from_hex};
 
 // The record that is being read, and its answer so far.
 #[derive(Drop)]
@@ -21,6 +22,16 @@ impl Stored {
         }
     }
 
+    // Holds the answer to the library's own. A difference is counted exactly where they differ, so that none in the
+    // end says that all were equal.
+    fn compare(&self, own: &str, tally: &mut Tally) -> io::Result<()>
+        ensures counted { tally.new.compared ≡ min (tally.old.compared + 1) (2 ^ 64 - 1) }
+        ensures equal { string_bytes self.now.answer ≡ own.now → tally.new.differences ≡ tally.old.differences }
+        ensures clean { OnOk result (tally.new.differences ≡ 0 → (tally.old.differences ≡ 0) × (string_bytes self.now.answer ≡ own.now)) }
+    {
+        tally.compare(self.answer.as_str(), own)
+    }
+
     // Takes in the next line; at a record's end, the answer is compared with the library's own.
     pub fn take_line(&mut self, heap: Global, line: &str, tally: &mut Tally) -> io::Result<()> {
         if let Some(digits) = line.strip_prefix("record ") {
@@ -28,7 +39,7 @@ impl Stored {
             self.answer.clear();
         } else if line == "end" {
             let own = record_text(heap, self.bytes.as_slice())?;
-            tally.compare(self.answer.as_str(), own.as_str())?;
+            self.compare(own.as_str(), tally)?;
         } else {
             self.answer.push_str(line)?;
             self.answer.push_str("\n")?;

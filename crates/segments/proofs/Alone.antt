@@ -1,16 +1,14 @@
 -- Contours stand alone.
-use Rattle.std.proofs.Common.{◌≡◌, ℕ, ◌-◌, Bool, false, cond, ◌&&◌, ◌||◌, List, [], ◌∷◌, ◌++◌, map, length, take, drop, ℤ, pos, negsuc, ◌+ℤ◌, ◌-ℤ◌, nat_abs, Some, None, sym, refl, ap, ◌∙◌, subst, append_assoc, arith}
+use Rattle.std.proofs.Common.{◌≡◌, ℕ, ◌-◌, false, cond, ◌&&◌, ◌||◌, List, [], ◌∷◌, ◌++◌, map, length, take, drop, ℤ, pos, negsuc, ◌+ℤ◌, ◌-ℤ◌, nat_abs, Some, None, sym, refl, ap, ◌∙◌, subst, append_assoc, arith}
 use lib.Signed.{shr_z}
 use Rattle.std.specs.List.{AllZip}
 use Rattle.std.proofs.lemmas.List.{take_at, drop_at, length-map}
 use Rattle.std.proofs.lemmas.Int.{ints}
 use Rattle.outline.specs.declared.contours.Contour.{Contour}
-use Rattle.outline.specs.declared.directions.Direction.{Direction}
 use Rattle.outline.specs.declared.points.Point.{Point}
 use Rattle.outline.specs.declared.points.PointKind.{PointKind}
 use Rattle.outline.specs.declared.points.PointKind.TheVariants.{Control, OnCurve}
 use Rattle.segments.specs.declared.measures.AxisPoint.{AxisPoint}
-use Rattle.segments.specs.declared.measures.Coordinate.{Coordinate}
 use Rattle.segments.specs.declared.measures.Dimension.{Dimension}
 use Rattle.segments.specs.declared.measures.Dimension.TheVariants.{Horizontal, Vertical}
 use Rattle.segments.specs.declared.measures.Position.{Position}
@@ -89,33 +87,15 @@ lone-round : (units : ℕ) (k : PointKind) (r : Reach) → ((control k || contro
 lone-round units Control r = refl
 lone-round units OnCurve r = refl
 
-built : Direction → Position → ℤ → Coordinate → ℕ → Bool → Segment
-built dir at delta low height round = record {
-  dir = dir;
-  pos = at;
-  delta = delta;
-  min_coord = low;
-  max_coord = low;
-  height = height;
-  round = round;
-  score = 32000;
-  link = None;
-  serif = None;
-  first = 0;
-  last = 0;
-}
-
-built_is : (d : Direction) (a a' : Position) (e e' : ℤ) (l : Coordinate) (h h' : ℕ) (r r' : Bool) → a ≡ a' → e ≡ e' → h ≡ h' → r ≡ r' →
-    built d a e l h r ≡ built d a' e' l h' r'
-built_is d a a' e e' l h h' r r' p q s t = cc
-
 lone_is : (dim : Dimension) (units : ℕ) (p : Point) →
     segment_of units (summary 0 (plain (lone (record { at = 0; point = seen dim p; ends = false })))) ≡ lone_segment dim p
-unfolding built
 lone_is dim units p =
-    built_is p.out_dir _ (across dim p) _ (pos 0) (along dim p) _ 0 _ (control p.flags.kind)
-    (ap (λ (z : ℤ). record { 0 = z }) (half_twice (across dim p).0)) (half_none (across dim p).0) (gap-none (along dim p).0)
-    (lone-round units p.flags.kind (record { low = along dim p; high = along dim p }))
+    let at : ◌≡◌ {A = Position} (record { 0 = shr_z ((across dim p).0 +ℤ (across dim p).0) 2 }) (across dim p)
+    = ap (λ (z : ℤ). record { 0 = z }) (half_twice (across dim p).0) in
+    let delta = half_none (across dim p).0 in
+    let height = gap-none (along dim p).0 in
+    let round = lone-round units p.flags.kind (record { low = along dim p; high = along dim p }) in
+    cc
 
 pub lone-told : LoneTold
 unfolding segments_of

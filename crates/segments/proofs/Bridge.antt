@@ -3,23 +3,21 @@ use Rattle.std.proofs.Common.{◌≡◌, ℕ, ◌+◌, Bool, true, false, cond, 
 use Rattle.std.proofs.lemmas.List.{map-append, length-map}
 use Rattle.std.proofs.lemmas.Int.{ints}
 use Rattle.std.proofs.lemmas.Bool.Decides.{nat_tests}
+use Rattle.std.specs.Option.{option_map, option_to_list}
 use Rattle.outline.specs.Directions.{same}
 use Rattle.outline.specs.declared.points.Point.{Point}
 use Rattle.segments.specs.declared.measures.AxisPoint.{AxisPoint}
 use Rattle.segments.specs.declared.measures.Dimension.{Dimension}
 use Rattle.segments.specs.declared.measures.Position.{Position}
 use Rattle.segments.specs.declared.states.State.{State}
-use Rattle.segments.specs.declared.walks.Walk.{Walk}
-use Rattle.segments.specs.declared.walks.Walk.TheVariants.{Between, Inside}
-use Rattle.segments.specs.declared.walks.Moved.{Moved}
-use Rattle.segments.specs.Building.{Visit, Built, list_of, room_with, done_with, latest_with, follow, visited, walked, segs_of, visits_of, lone_built, built_of}
+use Rattle.segments.specs.Building.{Visit, Built, room_with, done_with, latest_with, follow, visited, walked, segs_of, visits_of, lone_built, built_of}
 use Rattle.segments.specs.Closing.{joins, merged_into}
 use Rattle.segments.specs.Measures.{seen, lesser, greater}
 use Rattle.segments.specs.Starts.{on}
 use Rattle.segments.specs.Segments.{segment_of}
 use Rattle.segments.specs.States.{opened, taken, merged}
 use Rattle.segments.specs.Stretches.{Taken, lone, more, first_of, last_of, both, least_of, greatest_of, height_of, Stretch, plain, unite, summary, Went, went, Course, touches, unite_with, earlier, newest, onward, coursed, setting_out, lone_course, course, course_of, stretches_of, segments_of, most_of, shifted}
-use Rattle.segments.specs.Walks.{moved}
+use Rattle.segments.specs.Walks.{Moved, moved}
 
 lesser_assoc : (a b c : Position) → lesser (lesser a b) c ≡ lesser a (lesser b c)
 lesser_assoc a b c = grind (arith, ints)
@@ -43,11 +41,7 @@ pub last-both : (t u : Taken) → last_of (both t u) ≡ last_of u
 last-both t (lone v) = refl
 last-both t (more u v) = refl
 
-abbrev pub through : {X Y : Type 0} → (X → Y) → Option X → Option Y
-through f None = None
-through f (Some x) = Some (f x)
-
-list_through : {X Y : Type 0} (f : X → Y) (o : Option X) → list_of (through f o) ≡ map f (list_of o)
+list_through : {X Y : Type 0} (f : X → Y) (o : Option X) → option_to_list (option_map f o) ≡ map f (option_to_list o)
 list_through f None = refl
 list_through f (Some x) = refl
 
@@ -61,36 +55,32 @@ module _ (dim : Dimension) (base : ℕ) where
   abbrev pub SP : Taken → State
   SP t = summary base (plain t)
 
-  abbrev pub walk_of : Option Taken → Walk
-  walk_of None = Between
-  walk_of (Some t) = Inside (SP t)
-
   abbrev pub move_of : Went → Moved
-  move_of w = record { closed = through SP w.closed; opens = w.opens; walk = walk_of w.inside }
+  move_of w = record { closed = option_map SP w.closed; opens = w.opens; walk = option_map SP w.inside }
 
   abbrev pub built_by : Course → Built
-  built_by c = record { walk = walk_of c.inside; done = map S c.done; latest = through S c.latest; room = c.room }
+  built_by c = record { walk = option_map SP c.inside; done = map S c.done; latest = option_map S c.latest; room = c.room }
 
   met_is : (j : Bool) (closed : Option Taken) (v : Visit) →
-      cond j (record { closed = through SP closed; opens = true; walk = Inside (opened (base + v.at) v.point) })
-      (record { closed = through SP closed; opens = false; walk = Between })
+      cond j (record { closed = option_map SP closed; opens = true; walk = Some (opened (base + v.at) v.point) })
+      (record { closed = option_map SP closed; opens = false; walk = None })
       ≡ move_of (cond j (record { closed = closed; opens = true; inside = Some (lone v) }) (record { closed = closed; opens = false; inside = None }))
   met_is true closed v = refl
   met_is false closed v = refl
 
   in_is : (j : Bool) (t : Taken) (v : Visit) (m : Moved) (w : Went) → m ≡ move_of w →
-      cond j (record { closed = None; opens = false; walk = Inside (taken (SP t) (base + v.at) v.point) }) m
+      cond j (record { closed = None; opens = false; walk = Some (taken (SP t) (base + v.at) v.point) }) m
       ≡ move_of (cond j (record { closed = None; opens = false; inside = Some (more t v) }) w)
   in_is true t v m w e = refl
   in_is false t v m w e = e
 
-  pub moved_is : (o : Option Taken) (v : Visit) → moved dim (walk_of o) (base + v.at) v.point v.ends ≡ move_of (went dim o v)
+  pub moved_is : (o : Option Taken) (v : Visit) → moved dim (option_map SP o) (base + v.at) v.point v.ends ≡ move_of (went dim o v)
   moved_is None v = met_is (on dim v.point && not v.ends) None v
   moved_is (Some t) v =
       in_is (same v.point.out_dir (first_of t).point.out_dir && not v.ends) t v _ _
       (met_is (on dim v.point && not v.ends) (Some (more t v)) v)
 
-  joins_is : (latest : Option Stretch) (t : Taken) → joins (through S latest) (SP t) ≡ touches latest t
+  joins_is : (latest : Option Stretch) (t : Taken) → joins (option_map S latest) (SP t) ≡ touches latest t
   joins_is None t = refl
   joins_is (Some e) t = shift_eqb base (last_of e.all).at (first_of t).at
 
@@ -114,46 +104,46 @@ module _ (dim : Dimension) (base : ℕ) where
   merged_is : (a b : Stretch) → merged (S a) (S b) ≡ S (unite a b)
   merged_is a b = merged_by (ltb (height_of b.own) (height_of a.own)) a b
 
-  into_is : (latest : Option Stretch) (t : Taken) → merged_into (through S latest) (SP t) ≡ S (unite_with latest t)
+  into_is : (latest : Option Stretch) (t : Taken) → merged_into (option_map S latest) (SP t) ≡ S (unite_with latest t)
   into_is None t = refl
   into_is (Some e) t = merged_is e (plain t)
 
   done_by : (j : Bool) (done : List Stretch) (latest : Option Stretch) →
-      cond j (map S done) (map S done ++ list_of (through S latest)) ≡ map S (cond j done (done ++ list_of latest))
+      cond j (map S done) (map S done ++ option_to_list (option_map S latest)) ≡ map S (cond j done (done ++ option_to_list latest))
   done_by true done latest = refl
-  done_by false done latest = ap (λ (r : List State). map S done ++ r) (list_through S latest) ∙ sym (map-append S done (list_of latest))
+  done_by false done latest = ap (λ (r : List State). map S done ++ r) (list_through S latest) ∙ sym (map-append S done (option_to_list latest))
 
   done_is : (done : List Stretch) (latest : Option Stretch) (closed : Option Taken) →
-      done_with (map S done) (through S latest) (through SP closed) ≡ map S (earlier done latest closed)
+      done_with (map S done) (option_map S latest) (option_map SP closed) ≡ map S (earlier done latest closed)
   done_is done latest None = refl
   done_is done latest (Some t) =
-      ap (λ (j : Bool). cond j (map S done) (map S done ++ list_of (through S latest))) (joins_is latest t) ∙ done_by (touches latest t) done latest
+      ap (λ (j : Bool). cond j (map S done) (map S done ++ option_to_list (option_map S latest))) (joins_is latest t) ∙ done_by (touches latest t) done latest
 
   latest_by : (j : Bool) (latest : Option Stretch) (t : Taken) →
-      cond j (merged_into (through S latest) (SP t)) (SP t) ≡ S (cond j (unite_with latest t) (plain t))
+      cond j (merged_into (option_map S latest) (SP t)) (SP t) ≡ S (cond j (unite_with latest t) (plain t))
   latest_by true latest t = into_is latest t
   latest_by false latest t = refl
 
   latest_is : (latest : Option Stretch) (closed : Option Taken) →
-      latest_with (through S latest) (through SP closed) ≡ through S (newest latest closed)
+      latest_with (option_map S latest) (option_map SP closed) ≡ option_map S (newest latest closed)
   latest_is latest None = refl
   latest_is latest (Some t) =
-      ap (λ (j : Bool). Some (cond j (merged_into (through S latest) (SP t)) (SP t))) (joins_is latest t)
+      ap (λ (j : Bool). Some (cond j (merged_into (option_map S latest) (SP t)) (SP t))) (joins_is latest t)
       ∙ ap (λ (s : State). Some s) (latest_by (touches latest t) latest t)
 
-  pub segs_is : (done : List Stretch) (latest : Option Stretch) → map S done ++ list_of (through S latest) ≡ map S (done ++ list_of latest)
-  segs_is done latest = ap (λ (r : List State). map S done ++ r) (list_through S latest) ∙ sym (map-append S done (list_of latest))
+  pub segs_is : (done : List Stretch) (latest : Option Stretch) → map S done ++ option_to_list (option_map S latest) ≡ map S (done ++ option_to_list latest)
+  segs_is done latest = ap (λ (r : List State). map S done ++ r) (list_through S latest) ∙ sym (map-append S done (option_to_list latest))
 
   follow_is : (c : Course) (w : Went) → follow (built_by c) (move_of w) ≡ built_by (onward c w)
   follow_is c w =
       let d = done_is c.done c.latest w.closed in
       let l = latest_is c.latest w.closed in
-      let n : length (done_with (map S c.done) (through S c.latest) (through SP w.closed) ++ list_of (latest_with (through S c.latest) (through SP w.closed)))
-      ≡ length (earlier c.done c.latest w.closed ++ list_of (newest c.latest w.closed))
-      = ap (λ (r : List State). length (r ++ list_of (latest_with (through S c.latest) (through SP w.closed)))) d
-      ∙ ap (λ (o : Option State). length (map S (earlier c.done c.latest w.closed) ++ list_of o)) l
+      let n : length (done_with (map S c.done) (option_map S c.latest) (option_map SP w.closed) ++ option_to_list (latest_with (option_map S c.latest) (option_map SP w.closed)))
+      ≡ length (earlier c.done c.latest w.closed ++ option_to_list (newest c.latest w.closed))
+      = ap (λ (r : List State). length (r ++ option_to_list (latest_with (option_map S c.latest) (option_map SP w.closed)))) d
+      ∙ ap (λ (o : Option State). length (map S (earlier c.done c.latest w.closed) ++ option_to_list o)) l
       ∙ ap length (segs_is (earlier c.done c.latest w.closed) (newest c.latest w.closed))
-      ∙ length-map (earlier c.done c.latest w.closed ++ list_of (newest c.latest w.closed)) S in
+      ∙ length-map (earlier c.done c.latest w.closed ++ option_to_list (newest c.latest w.closed)) S in
       let r = ap (room_with c.room w.opens) n in
       cc
 

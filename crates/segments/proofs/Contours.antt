@@ -1,141 +1,140 @@
 -- Contour after contour.
-use Rattle.std.proofs.Common.{◌≡◌, ℕ, ◌+◌, ◌-◌, ◌<◌, ◌≤◌, Bool, true, false, ◌||◌, ltb, List, [], ◌∷◌, ◌++◌, map, length, get_or, take, drop, is_err, Ok, Err, Result, sym, refl, ap, ◌∙◌, subst, append_assoc, arith}
-use Rattle.std.proofs.lemmas.List.{length-append, length-map, drop_more, drop_all, append-nil, take_at}
+use Rattle.std.proofs.Common.{◌≡◌, ℕ, ◌+◌, ◌-◌, ◌<◌, ◌≤◌, Bool, true, false, ◌||◌, ltb, List, [], ◌∷◌, ◌++◌, map, length, get_or, take, drop, is_err, Ok, Err, Result, sym, ap, ◌∙◌, subst, append_assoc, arith}
+use Rattle.std.proofs.lemmas.List.{length-append, length-map, drop_more, take_at}
 use Rattle.std.proofs.lemmas.Bool.{lt-ltb, le-ltb, or_left, false≢true}
+use Rattle.std.specs.Result.{result_unwrap_or}
 use Rattle.segments.specs.declared.measures.Dimension.{Dimension}
 use Rattle.outline.specs.declared.contours.Contour.{Contour}
 use Rattle.outline.specs.declared.points.Point.{Point}
 use Rattle.segments.specs.declared.faults.BuildFault.{BuildFault}
 use Rattle.segments.specs.declared.faults.BuildFault.TheVariants.{TooManySegments}
-use Rattle.segments.specs.declared.measures.AxisPoint.{AxisPoint}
+use Rattle.segments.specs.declared.fillings.Filling.{Filling}
 use Rattle.segments.specs.declared.tables.Segment.{Segment}
 use Rattle.segments.specs.Segments.{segment_of}
-use Rattle.segments.specs.Building.{Built, Answer, put, segs_of, walked, visits_of, lone_built, built_of}
+use Rattle.segments.specs.Building.{Built, put, segs_of, lone_built, built_of}
+use Rattle.segments.specs.Fillings.{Along, BuiltAs}
 use Rattle.segments.specs.Measures.{seen}
-use Rattle.segments.specs.Readings.{points_of, entries_of, room_of, all_entries, overflows, Inside, Fills, Filled, used_by, Granted, Read, blanks}
+use Rattle.segments.specs.Readings.{points_of, entries_of, room_of, all_entries, overflows, Inside, Fills, Filled, Granted, Read, blanks}
 use Rattle.segments.proofs.Bridge.{segments_is, most_is}
+use Rattle.segments.proofs.Steps.{after}
 use Rattle.segments.proofs.Puts.{put-none, put-put}
 
-pub empty-answer : (units h : ℕ) (t : List Segment) (dim : Dimension) (base : ℕ) (ps : List AxisPoint) → length ps < 1 → h ≤ 1001 →
-    (h + (built_of dim base ps).room ≤ 1001) × (h ≡ h + length (segs_of (built_of dim base ps))) × (t ≡ put t h (map (segment_of units) (segs_of (built_of dim base ps)))) × (h ≤ 1001)
-empty-answer units h t dim base [] lt le = (omega arith, omega arith, sym (put-none t h), le)
-empty-answer units h t dim base (p ∷ ps) lt le = absurd (omega arith)
+-- a step that leaves all but the contour's own state as it is
+pub record Same (f g : Filling) : Type 0 where
+  pub along : Along f g
+  pub held_is : g.held ≡ f.held
+  pub table_is : g.table.now ≡ f.table.now
 
-pub lone-answer : (units h : ℕ) (t t' : List Segment) (dim : Dimension) (base : ℕ) (ps : List Point) (d : Point) (r : Result ℕ BuildFault) →
-    0 < length ps → length ps < 2 → Answer units h t t' (lone_built base (seen dim (get_or ps 0 d))) r →
-    Answer units h t t' (built_of dim base (map (seen dim) ps)) r
-lone-answer units h t t' dim base [] d r lt le a = absurd (omega arith)
-lone-answer units h t t' dim base (p ∷ []) d r lt le a = a
-lone-answer units h t t' dim base (p ∷ q ∷ ps) d r lt le a = absurd (omega arith)
+module _ (f g : Filling) (s : Same f g) (base : ℕ) where
+  pub built-after : (h : Filling) (b : Built) (r : Result Unit BuildFault) → BuiltAs g h b r → BuiltAs f h b r
+  built-after h b (Ok x) a = (
+    after s.along a.0,
+    omega (arith, a.1, s.held_is),
+    a.2 ∙ ap (λ (n : ℕ). n + length (segs_of b)) s.held_is,
+    a.3
+        ∙ ap (λ (r : List Segment). put r g.held (map (segment_of g.units) (segs_of b))) s.table_is
+        ∙ ap (λ (n : ℕ). put f.table.now n (map (segment_of g.units) (segs_of b))) s.held_is
+        ∙ ap (λ (u : ℕ). put f.table.now f.held (map (segment_of u) (segs_of b))) s.along.units_is,
+  )
+  built-after h b (Err e) a = omega (arith, a, s.held_is)
 
-pub round-answer : (units h : ℕ) (t t' : List Segment) (dim : Dimension) (base : ℕ) (ps : List Point) (r : Result ℕ BuildFault) →
-    2 ≤ length ps → Answer units h t t' (walked dim base (visits_of dim (map (seen dim) ps))) r →
-    Answer units h t t' (built_of dim base (map (seen dim) ps)) r
-round-answer units h t t' dim base [] r le a = absurd (omega arith)
-round-answer units h t t' dim base (p ∷ []) r le a = absurd (omega arith)
-round-answer units h t t' dim base (p ∷ q ∷ ps) r le a = a
+  pub none-answer : (ps : List Point) (x : Unit) → length ps < 1 → BuiltAs f g (built_of f.dim base (map (seen f.dim) ps)) (Ok x)
+  none-answer [] x lt = (
+    s.along,
+    omega (arith, f.few),
+    omega (arith, s.held_is),
+    s.table_is ∙ sym (put-none f.table.now f.held),
+  )
+  none-answer (p ∷ ps) x lt = absurd (omega arith)
+
+  pub lone-answer : (h : Filling) (ps : List Point) (d : Point) (r : Result Unit BuildFault) → 0 < length ps → length ps < 2 →
+      BuiltAs g h (lone_built base (seen g.dim (get_or ps 0 d))) r → BuiltAs f h (built_of f.dim base (map (seen f.dim) ps)) r
+  lone-answer h [] d r lt le a = absurd (omega arith)
+  lone-answer h (p ∷ []) d r lt le a =
+      built-after h (lone_built base (seen f.dim p)) r (subst (λ (e : Dimension). BuiltAs g h (lone_built base (seen e p)) r) s.along.dim_is a)
+  lone-answer h (p ∷ q ∷ ps) d r lt le a = absurd (omega arith)
 
 -- after i contours: what is held so far, and what is left to come
-pub record Filling (dim : Dimension) (units : ℕ) (ps : List Point) (cs : List Contour) (t : List Segment) (i h : ℕ) (table : List Segment) : Type 0 where
+pub record SoFar (dim : Dimension) (units : ℕ) (ps : List Point) (cs : List Contour) (t : List Segment) (i : ℕ) (f : Filling) : Type 0 where
+  pub dim_is : f.dim ≡ dim
+  pub units_is : f.units ≡ units
   pub made : List Segment
-  pub held : h ≡ length made
-  pub small : h ≤ 1001
-  pub written : table ≡ made ++ drop (length made) t
+  pub held : f.held ≡ length made
+  pub written : f.table.now ≡ made ++ drop (length made) t
   pub rest : made ++ all_entries dim units ps (drop i cs) ≡ all_entries dim units ps cs
-  pub ways : overflows dim units ps h (drop i cs) ≡ overflows dim units ps 0 cs
+  pub ways : overflows dim units ps f.held (drop i cs) ≡ overflows dim units ps 0 cs
   pub within : Inside (length ps) (drop i cs)
 
-module _ (dim : Dimension) (units : ℕ) (ps : List Point) (cs : List Contour) (t : List Segment) (i h : ℕ) (table : List Segment) (d : Contour)
-    (f : Filling dim units ps cs t i h table) (lt : i < length cs) where
+module _ (dim : Dimension) (units : ℕ) (ps : List Point) (cs : List Contour) (t : List Segment) (long : 1001 ≤ length t) (i : ℕ) (f : Filling) (d : Contour)
+    (s : SoFar dim units ps cs t i f) (lt : i < length cs) where
+  abbrev contour : Contour
+  contour = get_or cs i d
+
+  abbrev built : Built
+  built = built_of dim contour.first (map (seen dim) (points_of ps contour))
+
   here : drop i cs ≡ get_or cs i d ∷ drop (i + 1) cs
   here = drop_more cs i d lt
 
   inside : Inside (length ps) (get_or cs i d ∷ drop (i + 1) cs)
-  inside = subst (Inside (length ps)) here f.within
+  inside = subst (Inside (length ps)) here s.within
 
-  pub starts : (get_or cs i d).first ≤ (get_or cs i d).end
-  starts = inside.0
+  module _ (g : Filling) (qs : List Point) (qs_is : qs ≡ points_of ps contour) (r : Result Unit BuildFault)
+      (a : BuiltAs f g (built_of f.dim contour.first (map (seen f.dim) qs)) r) where
+    along : BuiltAs f g built r
+    along =
+        subst (λ (e : Dimension). BuiltAs f g (built_of e contour.first (map (seen e) (points_of ps contour))) r) s.dim_is
+        (subst (λ (us : List Point). BuiltAs f g (built_of f.dim contour.first (map (seen f.dim) us)) r) qs_is a)
 
-  pub stops : (get_or cs i d).end ≤ length ps
-  stops = inside.1
-
-  built : Built
-  built = built_of dim (get_or cs i d).first (map (seen dim) (points_of ps (get_or cs i d)))
-
-  module _ (n : ℕ) (t' : List Segment)
-      (room : h + (built_of dim (get_or cs i d).first (map (seen dim) (points_of ps (get_or cs i d)))).room ≤ 1001)
-      (count : n ≡ h + length (segs_of (built_of dim (get_or cs i d).first (map (seen dim) (points_of ps (get_or cs i d))))))
-      (put_is : t' ≡ put table h (map (segment_of units) (segs_of (built_of dim (get_or cs i d).first (map (seen dim) (points_of ps (get_or cs i d)))))))
-      (low : n ≤ 1001) (long : 1001 ≤ length t) where
-    counted : n ≡ h + length (entries_of dim units ps (get_or cs i d))
+  module _ (g : Filling) (qs : List Point) (qs_is : qs ≡ points_of ps contour) (x : Unit)
+      (a : BuiltAs f g (built_of f.dim contour.first (map (seen f.dim) qs)) (Ok x)) where
+    counted : g.held ≡ f.held + length (entries_of dim units ps contour)
     unfolding entries_of
     counted =
-        count
-        ∙ ap (λ k. h + k)
-        (sym (length-map (segs_of (built_of dim (get_or cs i d).first (map (seen dim) (points_of ps (get_or cs i d))))) (segment_of units))
-        ∙ ap length (segments_is dim (get_or cs i d).first units (points_of ps (get_or cs i d))))
+        (along g qs qs_is (Ok x) a).2
+        ∙ ap (λ k. f.held + k) (sym (length-map (segs_of built) (segment_of units)) ∙ ap length (segments_is dim contour.first units (points_of ps contour)))
 
-    placed : t' ≡ put table h (entries_of dim units ps (get_or cs i d))
+    placed : g.table.now ≡ put f.table.now f.held (entries_of dim units ps contour)
     unfolding entries_of
-    placed = put_is ∙ ap (put table h) (segments_is dim (get_or cs i d).first units (points_of ps (get_or cs i d)))
+    placed =
+        (along g qs qs_is (Ok x) a).3
+        ∙ ap (λ (u : ℕ). put f.table.now f.held (map (segment_of u) (segs_of built))) s.units_is
+        ∙ ap (put f.table.now f.held) (segments_is dim contour.first units (points_of ps contour))
 
-    fits : ltb 1001 (h + room_of dim ps (get_or cs i d)) ≡ false
+    fits : ltb 1001 (f.held + room_of dim ps contour) ≡ false
     unfolding room_of
-    fits = le-ltb 1001 (h + room_of dim ps (get_or cs i d)) (omega (arith, most_is dim (get_or cs i d).first (points_of ps (get_or cs i d))))
+    fits = le-ltb 1001 (f.held + room_of dim ps contour) (omega (arith, (along g qs qs_is (Ok x) a).1, most_is dim contour.first (points_of ps contour)))
 
-    pub filling_more : Filling dim units ps cs t (i + 1) n t'
-    filling_more = record {
-      made = f.made ++ entries_of dim units ps (get_or cs i d);
-      held = omega (arith, counted, f.held, length-append f.made (entries_of dim units ps (get_or cs i d)));
-      small = low;
+    pub sofar_more : SoFar dim units ps cs t (i + 1) g
+    sofar_more = record {
+      dim_is = a.0.dim_is ∙ s.dim_is;
+      units_is = a.0.units_is ∙ s.units_is;
+      made = s.made ++ entries_of dim units ps contour;
+      held = omega (arith, counted, s.held, length-append s.made (entries_of dim units ps contour));
       written =
           placed
-          ∙ ap (λ (r : List Segment). put r h (entries_of dim units ps (get_or cs i d))) f.written
-          ∙ ap (λ (k : ℕ). put (f.made ++ drop (length f.made) t) k (entries_of dim units ps (get_or cs i d))) f.held
-          ∙ put-put t f.made (entries_of dim units ps (get_or cs i d)) (omega (arith, f.held, f.small));
+          ∙ ap (λ (r : List Segment). put r f.held (entries_of dim units ps contour)) s.written
+          ∙ ap (λ (k : ℕ). put (s.made ++ drop (length s.made) t) k (entries_of dim units ps contour)) s.held
+          ∙ put-put t s.made (entries_of dim units ps contour) (omega (arith, s.held, f.few));
       rest =
-          append_assoc f.made (entries_of dim units ps (get_or cs i d)) (all_entries dim units ps (drop (i + 1) cs))
-          ∙ ap (λ (r : List Contour). f.made ++ all_entries dim units ps r) (sym here)
-          ∙ f.rest;
+          append_assoc s.made (entries_of dim units ps contour) (all_entries dim units ps (drop (i + 1) cs))
+          ∙ ap (λ (r : List Contour). s.made ++ all_entries dim units ps r) (sym here)
+          ∙ s.rest;
       ways =
           ap (λ (k : ℕ). overflows dim units ps k (drop (i + 1) cs)) counted
-          ∙ ap (λ (b : Bool). b || overflows dim units ps (h + length (entries_of dim units ps (get_or cs i d))) (drop (i + 1) cs)) (sym fits)
-          ∙ ap (overflows dim units ps h) (sym here)
-          ∙ f.ways;
+          ∙ ap (λ (b : Bool). b || overflows dim units ps (f.held + length (entries_of dim units ps contour)) (drop (i + 1) cs)) (sym fits)
+          ∙ ap (overflows dim units ps f.held) (sym here)
+          ∙ s.ways;
       within = inside.2;
     }
 
-  pub filling_breaks : 1001 < h + (built_of dim (get_or cs i d).first (map (seen dim) (points_of ps (get_or cs i d)))).room → overflows dim units ps 0 cs ≡ true
+  pub sofar_breaks : (g : Filling) (qs : List Point) → qs ≡ points_of ps contour → (e : BuildFault) →
+      BuiltAs f g (built_of f.dim contour.first (map (seen f.dim) qs)) (Err e) → overflows dim units ps 0 cs ≡ true
   unfolding room_of
-  filling_breaks gt =
-      sym f.ways ∙ ap (overflows dim units ps h) here
-      ∙ or_left (ltb 1001 (h + room_of dim ps (get_or cs i d))) (overflows dim units ps (h + length (entries_of dim units ps (get_or cs i d))) (drop (i + 1) cs))
-      (lt-ltb 1001 (h + room_of dim ps (get_or cs i d)) (omega (arith, most_is dim (get_or cs i d).first (points_of ps (get_or cs i d)))))
-
-pub filling_none : (dim : Dimension) (units : ℕ) (ps : List Point) (cs : List Contour) (t : List Segment) → Inside (length ps) cs →
-    Filling dim units ps cs t 0 0 t
-filling_none dim units ps cs t in-sheet = record {
-  made = [];
-  held = refl;
-  small = omega arith;
-  written = refl;
-  rest = refl;
-  ways = refl;
-  within = in-sheet;
-}
-
-pub filling_all : (dim : Dimension) (units : ℕ) (ps : List Point) (cs : List Contour) (t : List Segment) (i h : ℕ) (table : List Segment) →
-    Filling dim units ps cs t i h table → length cs ≤ i → Fills dim units ps cs t table h
-filling_all dim units ps cs t i h table f le =
-    let none : drop i cs ≡ [] = drop_all i cs le in
-    let all : f.made ≡ all_entries dim units ps cs
-    = sym (append-nil f.made) ∙ ap (λ (r : List Contour). f.made ++ all_entries dim units ps r) (sym none) ∙ f.rest in
-    record {
-      fits = sym f.ways ∙ ap (overflows dim units ps h) none;
-      few = f.small;
-      count = f.held ∙ ap length all;
-      table = f.written ∙ ap (λ (r : List Segment). r ++ drop (length r) t) all;
-    }
+  sofar_breaks g qs qs_is e a =
+      sym s.ways ∙ ap (overflows dim units ps f.held) here
+      ∙ or_left (ltb 1001 (f.held + room_of dim ps contour)) (overflows dim units ps (f.held + length (entries_of dim units ps contour)) (drop (i + 1) cs))
+      (lt-ltb 1001 (f.held + room_of dim ps contour) (omega (arith, along g qs qs_is (Err e) a, most_is dim contour.first (points_of ps contour))))
 
 pub filled_err : (dim : Dimension) (units : ℕ) (ps : List Point) (cs : List Contour) (t t' : List Segment) (r : Result ℕ BuildFault) →
     is_err r ≡ true → overflows dim units ps 0 cs ≡ true → Filled dim units ps cs t t' r
@@ -158,7 +157,7 @@ module _ (dim : Dimension) (given units : ℕ) (ps : List Point) (cs : List Cont
         ∙ ap (λ (k : ℕ). all_entries dim given ps cs ++ blanks (k - n)) same_length;
   })
 
-  pub read_is : (r : Result ℕ BuildFault) → Filled dim given ps cs t u r → t' ≡ take (used_by r) u ++ blanks (length u - used_by r) →
+  pub read_is : (r : Result ℕ BuildFault) → Filled dim given ps cs t u r → t' ≡ take (result_unwrap_or r 0) u ++ blanks (length u - result_unwrap_or r 0) →
       Read dim units ps cs t t' r
   read_is (Ok n) f t-is = granted n f t-is
   read_is (Err TooManySegments) f t-is = record {
@@ -166,7 +165,7 @@ module _ (dim : Dimension) (given units : ℕ) (ps : List Point) (cs : List Cont
     table = let n : length u - 0 ≡ length t = omega arith in t-is ∙ ap blanks n;
   }
 
-pub used_few : (dim : Dimension) (units : ℕ) (ps : List Point) (cs : List Contour) (t u : List Segment) (r : Result ℕ BuildFault) →
-    Filled dim units ps cs t u r → used_by r ≤ 1001
-used_few dim units ps cs t u (Ok n) f = f.few
-used_few dim units ps cs t u (Err e) f = omega arith
+pub used_few : (dim : Dimension) (units : ℕ) (ps : List Point) (cs : List Contour) (t u : List Segment) (r : Result ℕ BuildFault) (d n : ℕ) →
+    Filled dim units ps cs t u r → n ≡ result_unwrap_or r d → d ≤ 1001 → n ≤ 1001
+used_few dim units ps cs t u (Ok k) d n f e le = omega (arith, f.few)
+used_few dim units ps cs t u (Err x) d n f e le = omega arith

@@ -177,7 +177,7 @@ short_decides units (Some r) zs e =
 
 control_decides : (k : PointKind) → Decides (control k) (k ≡ Control)
 control_decides Control = (λ _. refl, λ _. refl)
-control_decides OnCurve = (λ e. let z : ◌≡◌ {A = ℕ} 0 1 = cc in absurd (omega arith), λ e. let z : ◌≡◌ {A = ℕ} 0 1 = cc in absurd (omega arith))
+control_decides OnCurve = (λ e. cc, λ e. cc)
 
 pub ordered-told : (t : Taken) → (low_of t).at.0 ≤ℤ (high_of t).at.0
 ordered-told t = ordered (low_of t).at.0 (high_of t).at.0 (coordinates (points_in t)) (low_told t) (high-told t)

@@ -1,6 +1,7 @@
 pub mod Puts
 pub mod Rooms
 pub mod Visits
+pub mod Steps
 pub mod Follow
 pub mod Turns
 pub mod Bridge

@@ -1,10 +1,11 @@
 -- Rows that touch are merged, and the tallest survives.
 use Rattle.std.proofs.Common.{◌≡◌, ◌<◌, ◌≤◌, Bool, true, false, cond, eqb, ltb, List, [], ◌∷◌, ◌++◌, Some, None, Option, sym, refl, ap, ◌∙◌, subst, append_assoc, arith}
+use Rattle.std.specs.Option.{option_to_list}
 use Rattle.std.specs.List.{AllByRecursion}
 use Rattle.std.proofs.ByRecursion.{All-append, All-push, All-weaker}
 use Rattle.std.proofs.lemmas.List.{append-nil}
 use Rattle.std.proofs.lemmas.Bool.{ltb-true, ltb-false, eqb-true, eqb-false}
-use Rattle.segments.specs.Building.{Visit, list_of}
+use Rattle.segments.specs.Building.{Visit}
 use Rattle.segments.specs.Rows.{Group, single, then, rows_in, Meets, Merged, AllMerged, all_rows, Apart}
 use Rattle.segments.specs.Stretches.{Taken, lone, more, first_of, last_of, both, height_of, Stretch, plain, unite, earlier, newest}
 
@@ -123,7 +124,7 @@ pub record Sorted (ts : List Taken) (ss : List Stretch) : Type 0 where
   pub merged : AllMerged groups ss
   pub apart : Apart ss
 
-pub placed-all : (ts : List Taken) (done : List Stretch) (latest : Option Stretch) → Placed ts done latest → Sorted ts (done ++ list_of latest)
+pub placed-all : (ts : List Taken) (done : List Stretch) (latest : Option Stretch) → Placed ts done latest → Sorted ts (done ++ option_to_list latest)
 placed-all ts done None p = record {
   groups = [];
   rows = sym p.0;

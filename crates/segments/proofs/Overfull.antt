@@ -1,7 +1,9 @@
 -- A reading is refused exactly where a segment opens while more than 1,000 are held.
 use Rattle.std.proofs.Common.{◌≡◌, ℕ, ◌+◌, ◌<◌, ◌≤◌, Bool, true, false, cond, ◌||◌, ltb, ◌⊎◌, List, [], ◌∷◌, ◌++◌, map, length, Some, None, Ok, Err, Decides, fold, Option, Result, sym, refl, ap, ◌∙◌, subst, inl, inr, append_assoc, arith}
+use Rattle.std.proofs.lemmas.List.Sums.{fold-append}
 use Rattle.std.proofs.lemmas.List.{append-nil, length-append, length_push, length-map}
 use Rattle.std.proofs.lemmas.Bool.{both_ways, cases_lt, ltb-true, ltb-false, false≢true}
+use Rattle.std.specs.Option.{option_len, option_map, option_to_list}
 use Rattle.outline.specs.declared.contours.Contour.{Contour}
 use Rattle.outline.specs.declared.points.Point.{Point}
 use Rattle.segments.specs.declared.faults.BuildFault.{BuildFault}
@@ -9,24 +11,24 @@ use Rattle.segments.specs.declared.faults.BuildFault.TheVariants.{TooManySegment
 use Rattle.segments.specs.declared.measures.AxisPoint.{AxisPoint}
 use Rattle.segments.specs.declared.measures.Dimension.{Dimension}
 use Rattle.segments.specs.declared.tables.Segment.{Segment}
-use Rattle.segments.specs.Building.{Visit, list_of, room_with, visits_of}
+use Rattle.segments.specs.Building.{Visit, room_with, visits_of}
 use Rattle.segments.specs.Measures.{seen}
 use Rattle.segments.specs.Readings.{points_of, entries_of, room_of, all_entries, overflows, Read}
 use Rattle.segments.specs.Refusals.{Opens, OpensIn, Overfull, Justly}
 use Rattle.segments.specs.Segments.{segment_of}
 use Rattle.segments.specs.Stretches.{Taken, Stretch, summary, went, Course, touches, plain, earlier, newest, coursed, setting_out, course, course_of, stretches_of, segments_of, most_of, shifted}
-use Rattle.segments.proofs.Bridge.{through, SP, walk_of, move_of, moved_is}
-use Rattle.segments.proofs.Follow.{folded_append, room_grows, room_holds}
-use Rattle.segments.proofs.Rooms.{one, one_le, Sound, moved_sound}
+use Rattle.segments.proofs.Bridge.{SP, move_of, moved_is}
+use Rattle.segments.proofs.Follow.{room_grows, room_holds}
+use Rattle.segments.proofs.Rooms.{one_le, Sound, moved_sound}
 
 module _ (dim : Dimension) where
   course-more : (vs : List Visit) (v : Visit) → course dim (vs ++ v ∷ []) ≡ coursed dim (course dim vs) v
   unfolding course
-  course-more vs v = folded_append (coursed dim) setting_out vs (v ∷ [])
+  course-more vs v = fold-append (coursed dim) setting_out vs (v ∷ [])
 
   course-append : (vs us : List Visit) → course dim (vs ++ us) ≡ fold (coursed dim) (course dim vs) us
   unfolding course
-  course-append vs us = folded_append (coursed dim) setting_out vs us
+  course-append vs us = fold-append (coursed dim) setting_out vs us
 
   -- the room never shrinks
   room_stays : (c : Course) (vs : List Visit) → c.room ≤ (fold (coursed dim) c vs).room
@@ -94,38 +96,34 @@ module _ (dim : Dimension) where
     all_reached = reached [] vs refl (inl refl)
 
   -- each segment was opened
-  abbrev open_one : Option Taken → ℕ
-  open_one None = 0
-  open_one (Some t) = 1
-
-  one_is : (o : Option Taken) → one (walk_of dim 0 o) ≡ open_one o
+  one_is : (o : Option Taken) → option_len (option_map (SP dim 0) o) ≡ option_len o
   one_is None = refl
   one_is (Some t) = refl
 
-  closed_is : (o : Option Taken) → length (list_of (through (SP dim 0) o)) ≡ length (list_of o)
+  closed_is : (o : Option Taken) → length (option_to_list (option_map (SP dim 0) o)) ≡ length (option_to_list o)
   closed_is None = refl
   closed_is (Some t) = refl
 
-  sound : (o : Option Taken) (v : Visit) → Sound (walk_of dim 0 o) (move_of dim 0 (went dim o v))
-  sound o v = subst (Sound (walk_of dim 0 o)) (moved_is dim 0 o v) (moved_sound dim (walk_of dim 0 o) (0 + v.at) v.point v.ends)
+  sound : (o : Option Taken) (v : Visit) → Sound (option_map (SP dim 0) o) (move_of dim 0 (went dim o v))
+  sound o v = subst (Sound (option_map (SP dim 0) o)) (moved_is dim 0 o v) (moved_sound dim (option_map (SP dim 0) o) (0 + v.at) v.point v.ends)
 
   count_by : (j : Bool) (done : List Stretch) (e s : Stretch) → length (cond j done (done ++ e ∷ []) ++ s ∷ []) ≤ length (done ++ e ∷ []) + 1
   count_by true done e s = omega (arith, length_push done e, length_push done s)
   count_by false done e s = omega (arith, length_push (done ++ e ∷ []) s)
 
   count_le : (done : List Stretch) (latest : Option Stretch) (closed : Option Taken) →
-      length (earlier done latest closed ++ list_of (newest latest closed)) ≤ length (done ++ list_of latest) + length (list_of closed)
+      length (earlier done latest closed ++ option_to_list (newest latest closed)) ≤ length (done ++ option_to_list latest) + length (option_to_list closed)
   count_le done latest None = omega arith
   count_le done None (Some t) = omega (arith, length_push (done ++ []) (plain t))
   count_le done (Some e) (Some t) = count_by (touches (Some e) t) done e _
 
-  course-fits : (c : Course) (vs : List Visit) → length (stretches_of c) + open_one c.inside ≤ c.room →
+  course-fits : (c : Course) (vs : List Visit) → length (stretches_of c) + option_len c.inside ≤ c.room →
       length (stretches_of (fold (coursed dim) c vs)) ≤ (fold (coursed dim) c vs).room
   course-fits c [] h = omega (arith, h)
   course-fits c (v ∷ vs) h =
       course-fits (coursed dim c v) vs
-      (room_holds (went dim c.inside v).opens c.room (length (stretches_of (coursed dim c v))) (open_one (went dim c.inside v).inside)
-      (omega (arith, one_is (went dim c.inside v).inside, one_le (walk_of dim 0 (went dim c.inside v).inside)))
+      (room_holds (went dim c.inside v).opens c.room (length (stretches_of (coursed dim c v))) (option_len (went dim c.inside v).inside)
+      (omega (arith, one_is (went dim c.inside v).inside, one_le (option_map (SP dim 0) (went dim c.inside v).inside)))
       (λ e. omega (
         arith,
         (sound c.inside v).quiet e,

@@ -1,12 +1,11 @@
 -- What a write to the table leaves: one more entry, or another latest one.
 use Rattle.std.proofs.Common.{◌≡◌, ℕ, ◌+◌, ◌-◌, ◌<◌, ◌≤◌, Bool, true, false, cond, List, [], ◌∷◌, ◌++◌, map, length, get_or, take, drop, set, Some, None, Option, sym, refl, ap, ◌∙◌, append_assoc, arith}
-use Rattle.std.proofs.lemmas.List.{drop_more, set_at, length-append, length-take-le, length_push, map_push, length-map, append-nil, take-append-drop, take_at, drop_at, drop-drop, drop_all, length-replicate, replicate_more}
+use Rattle.std.specs.Option.{option_to_list}
+use Rattle.std.proofs.lemmas.List.{drop_more, set_at, length-append, length-take-le, length_push, map_push, length-map, take-append-drop, take_at, drop_at, drop-drop}
 use Rattle.segments.specs.declared.tables.Segment.{Segment}
 use Rattle.segments.specs.declared.states.State.{State}
 use Rattle.segments.specs.Closing.{joins, survivor, place_of}
-use Rattle.segments.specs.Building.{put, list_of, done_with}
-use Rattle.segments.specs.Readings.{blanks}
-use Rattle.segments.specs.Segments.{blank}
+use Rattle.segments.specs.Building.{put, done_with}
 
 length_front : (t es : List Segment) (h : ℕ) → h ≤ length t → length (take h t ++ es) ≡ h + length es
 length_front t es h le = length-append (take h t) es ∙ ap (λ n. n + length es) (length-take-le h t le)
@@ -59,8 +58,8 @@ module _ (e : State → Segment) (t : List Segment) (h : ℕ) where
   either false done x y lt = more (done ++ x ∷ []) y lt
 
   -- a segment closes
-  pub table_close : (done : List State) (latest : Option State) (s : State) → h + length (done ++ list_of latest) < length t →
-      set (put t h (map e (done ++ list_of latest))) (place_of (h + length (done ++ list_of latest)) latest s) (e (survivor latest s))
+  pub table_close : (done : List State) (latest : Option State) (s : State) → h + length (done ++ option_to_list latest) < length t →
+      set (put t h (map e (done ++ option_to_list latest))) (place_of (h + length (done ++ option_to_list latest)) latest s) (e (survivor latest s))
       ≡ put t h (map e (done_with done latest (Some s) ++ survivor latest s ∷ []))
   table_close done None s lt = more (done ++ []) s lt
   table_close done (Some x) s lt = either (joins (Some x) s) done x (survivor (Some x) s) lt
@@ -85,30 +84,3 @@ put-put t E es le =
     ∙ drop-drop (length es) (length E) t
     ∙ ap (λ n. drop n t) (sym (length-append E es)))
     ∙ sym (append_assoc E es (drop (length (E ++ es)) t))
-
--- blank entries from place f on, as far as i
-pub blanks-none : (t : List Segment) (f : ℕ) → t ≡ put t f (blanks (f - f))
-blanks-none t f = let z : 0 ≡ f - f = omega arith in sym (put-none t f) ∙ ap (λ (n : ℕ). put t f (blanks n)) z
-
-pub blanks-more : (t u : List Segment) (f i : ℕ) (y : Segment) → f ≤ i → i < length t → y ≡ blank → u ≡ put t f (blanks (i - f)) →
-    set u i y ≡ put t f (blanks (i + 1 - f))
-blanks-more t u f i y le lt y-is u-is =
-    let n : length (blanks (i - f)) ≡ i - f = length-replicate (i - f) blank in
-    let at : i ≡ f + length (blanks (i - f)) = omega arith in
-    let next : i - f + 1 ≡ i + 1 - f = omega arith in
-    ap (λ (r : List Segment). set r i y) u-is
-    ∙ ap (λ (k : ℕ). set (put t f (blanks (i - f))) k y) at
-    ∙ ap (λ (z : Segment). set (put t f (blanks (i - f))) (f + length (blanks (i - f))) z) y-is
-    ∙ put-more t (blanks (i - f)) blank f (omega arith)
-    ∙ ap (put t f) (replicate_more (i - f) blank)
-    ∙ ap (λ (k : ℕ). put t f (blanks k)) next
-
-pub blanks-all : (t u : List Segment) (f i : ℕ) → f ≤ length t → i ≡ length t → u ≡ put t f (blanks (i - f)) →
-    u ≡ take f t ++ blanks (length t - f)
-unfolding put
-blanks-all t u f i le i-is u-is =
-    let n : length (blanks (length t - f)) ≡ length t - f = length-replicate (length t - f) blank in
-    u-is
-    ∙ ap (λ (k : ℕ). take f t ++ (blanks (k - f) ++ drop (f + length (blanks (k - f))) t)) i-is
-    ∙ ap (λ (r : List Segment). take f t ++ (blanks (length t - f) ++ r)) (drop_all (f + length (blanks (length t - f))) t (omega arith))
-    ∙ ap (λ (r : List Segment). take f t ++ r) (append-nil (blanks (length t - f)))

@@ -1,40 +1,17 @@
 -- Where the walk round a contour begins.
-use Rattle.std.proofs.Common.{◌≡◌, ℕ, zero, suc, ◌+◌, ◌-◌, ◌<◌, ◌≤◌, Bool, true, false, cond, ◌&&◌, List, [], ◌∷◌, map, length, get_or, drop, sym, refl, ap, ◌∙◌, arith}
-use Rattle.std.proofs.lemmas.List.{drop_more, drop_all, get_or-map, length-map}
+use Rattle.std.proofs.Common.{◌≡◌, ℕ, zero, suc, ◌+◌, ◌-◌, ◌<◌, Bool, true, false, cond, ◌&&◌, List, [], ◌∷◌, map, length, get_or, Option, Some, None, MatchOption, sym, refl, ap, ◌∙◌, arith}
+use Rattle.std.proofs.lemmas.List.{get_or-map, length-map}
 use Rattle.std.proofs.lemmas.Bool.{cond-true, cond-false, and_left, and_right, and_from, and_parts, both_ways}
 use Rattle.outline.specs.declared.points.Point.{Point}
 use Rattle.segments.specs.declared.measures.AxisPoint.{AxisPoint}
 use Rattle.segments.specs.declared.measures.Dimension.{Dimension}
 use Rattle.segments.specs.Measures.{seen, on_line}
-use Rattle.segments.specs.Starts.{on, all_on, head_on, last_on, run_of, start_of}
+use Rattle.segments.specs.Starts.{on, IsLastOff, all_on, head_on, last_on, run_of, start_of}
 
 module _ (dim : Dimension) where
-  all_off : (ps : List AxisPoint) (k : ℕ) (d : AxisPoint) → k < length ps → on dim (get_or ps k d) ≡ false → all_on dim ps ≡ false
-  all_off [] k d lt e = absurd (omega arith)
-  all_off (p ∷ ps) zero d lt e = and_left (on dim p) (all_on dim ps) e
-  all_off (p ∷ ps) (suc k) d lt e = and_right (on dim p) (all_on dim ps) (all_off ps k d (omega arith) e)
-
   run_zero : (ps : List AxisPoint) → all_on dim ps ≡ true → run_of dim ps ≡ 0
   run_zero [] h = refl
   run_zero (p ∷ ps) h = cond-true _ 0 (run_of dim ps + 1) h
-
-  -- all points from place s on are on the line, and the one before it, if there is one, is not
-  run_is : (ps : List AxisPoint) (s : ℕ) (d : AxisPoint) → s ≤ length ps → all_on dim (drop s ps) ≡ true →
-      ((k : ℕ) → s ≡ k + 1 → on dim (get_or ps k d) ≡ false) → s ≡ run_of dim ps
-  run_is ps zero d le h off = sym (run_zero ps h)
-  run_is [] (suc k) d le h off = absurd (omega arith)
-  run_is (p ∷ ps) (suc k) d le h off =
-      let here : all_on dim (p ∷ ps) ≡ false = all_off (p ∷ ps) k d (omega arith) (off k (omega arith)) in
-      let rest : k ≡ run_of dim ps = run_is ps k d (omega arith) h (λ j e. off (suc j) (omega arith)) in
-      omega (arith, cond-false _ 0 (run_of dim ps + 1) here)
-
-  -- one point further back
-  run_on : (ps : List AxisPoint) (k : ℕ) (d : AxisPoint) → k < length ps → on dim (get_or ps k d) ≡ true →
-      all_on dim (drop (k + 1) ps) ≡ true → all_on dim (drop k ps) ≡ true
-  run_on ps k d lt e h = ap (all_on dim) (drop_more ps k d lt) ∙ and_from (on dim (get_or ps k d)) (all_on dim (drop (k + 1) ps)) e h
-
-  run_none : (ps : List AxisPoint) (n : ℕ) → length ps ≤ n → all_on dim (drop n ps) ≡ true
-  run_none ps n le = ap (all_on dim) (drop_all n ps le)
 
   head_is : (ps : List AxisPoint) (d : AxisPoint) → 0 < length ps → head_on dim ps ≡ on dim (get_or ps 0 d)
   head_is [] d lt = absurd (omega arith)
@@ -65,31 +42,40 @@ module _ (dim : Dimension) where
       go true h = h refl
       go false h = lt
 
+  all_off : (ps : List Point) (i : ℕ) → i < length ps → ((d : Point) → on_line dim (get_or ps i d).out_dir ≡ false) → all_on dim (map (seen dim) ps) ≡ false
+  all_off [] i lt off = absurd (omega arith)
+  all_off (p ∷ ps) zero lt off = and_left (on_line dim p.out_dir) (all_on dim (map (seen dim) ps)) (off p)
+  all_off (p ∷ ps) (suc i) lt off = and_right (on_line dim p.out_dir) (all_on dim (map (seen dim) ps)) (all_off ps i (omega arith) off)
+
+  all_at : (ps : List Point) → ((k : ℕ) (d : Point) → k < length ps → on_line dim (get_or ps k d).out_dir ≡ true) → all_on dim (map (seen dim) ps) ≡ true
+  all_at [] on = refl
+  all_at (p ∷ ps) on =
+      and_from (on_line dim p.out_dir) (all_on dim (map (seen dim) ps)) (on 0 p (omega arith)) (all_at ps (λ k d lt. on (suc k) d (omega arith)))
+
+  run-after : (ps : List Point) (i : ℕ) → i < length ps → ((d : Point) → on_line dim (get_or ps i d).out_dir ≡ false) →
+      ((k : ℕ) (d : Point) → i < k → k < length ps → on_line dim (get_or ps k d).out_dir ≡ true) → run_of dim (map (seen dim) ps) ≡ i + 1
+  run-after [] i lt off on = absurd (omega arith)
+  run-after (p ∷ ps) zero lt off on =
+      omega (
+        arith,
+        cond-false _ 0 (run_of dim (map (seen dim) ps) + 1) (all_off (p ∷ ps) 0 lt off),
+        run_zero (map (seen dim) ps) (all_at ps (λ k d b. on (suc k) d (omega arith) (omega arith))),
+      )
+  run-after (p ∷ ps) (suc i) lt off on =
+      omega (
+        arith,
+        cond-false _ 0 (run_of dim (map (seen dim) ps) + 1) (all_off (p ∷ ps) (suc i) lt off),
+        run-after ps i (omega arith) off (λ k d a b. on (suc k) d (omega arith) (omega arith)),
+      )
+
+  -- the run begins after the last point that is off the line
+  pub run-found : (ps : List Point) (at : Option ℕ) (n : ℕ) → IsLastOff dim ps at → MatchOption at (n ≡ 0) (λ i. n ≡ i + 1) → n ≡ run_of dim (map (seen dim) ps)
+  run-found ps None n off n-is = omega (arith, run_zero (map (seen dim) ps) (all_at ps off))
+  run-found ps (Some i) n off n-is = omega (arith, run-after ps i off.0 off.1 off.2)
+
   module _ (ps : List Point) where
     at : (k : ℕ) (d : Point) → k < length ps → on dim (get_or (map (seen dim) ps) k (seen dim d)) ≡ on_line dim (get_or ps k d).out_dir
     at k d lt = ap (on dim) (get_or-map (seen dim) ps k d (seen dim d) lt)
-
-    pub run-starts : (n : ℕ) → n ≡ length ps → all_on dim (drop n (map (seen dim) ps)) ≡ true
-    run-starts n e = run_none (map (seen dim) ps) n (omega (arith, length-map ps (seen dim)))
-
-    pub run_more : (s : ℕ) (d : Point) → 0 < s → s ≤ length ps → on_line dim (get_or ps (s - 1) d).out_dir ≡ true →
-        all_on dim (drop s (map (seen dim) ps)) ≡ true → all_on dim (drop (s - 1) (map (seen dim) ps)) ≡ true
-    run_more s d lt le e h =
-        let back : s ≡ s - 1 + 1 = omega arith in
-        run_on (map (seen dim) ps) (s - 1) (seen dim d) (omega (arith, length-map ps (seen dim))) (at (s - 1) d (omega arith) ∙ e)
-        (ap (λ (i : ℕ). all_on dim (drop i (map (seen dim) ps))) (sym back) ∙ h)
-
-    pub run-all : (s : ℕ) (d : Point) → s ≤ length ps → all_on dim (drop s (map (seen dim) ps)) ≡ true →
-        (0 < s → on_line dim (get_or ps (s - 1) d).out_dir ≡ false) → s ≡ run_of dim (map (seen dim) ps)
-    run-all s d le h off =
-        run_is (map (seen dim) ps) s (seen dim d) (omega (arith, length-map ps (seen dim))) h
-        (λ k e. let back : k ≡ s - 1 = omega arith in
-        at k d (omega arith) ∙ ap (λ (i : ℕ). on_line dim (get_or ps i d).out_dir) back ∙ off (omega arith))
-
-    pub run-whole : (s : ℕ) → s ≤ 0 → all_on dim (drop s (map (seen dim) ps)) ≡ true → s ≡ run_of dim (map (seen dim) ps)
-    run-whole s le h =
-        let z : s ≡ 0 = omega arith in
-        omega (arith, run_zero (map (seen dim) ps) (ap (λ (i : ℕ). all_on dim (drop i (map (seen dim) ps))) (sym z) ∙ h))
 
     -- the tests of the two ends
     ends_are : (d e : Point) → 0 < length ps →

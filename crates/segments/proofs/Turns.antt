@@ -1,104 +1,171 @@
--- One turn of the loop.
-use Rattle.std.proofs.Common.{◌≡◌, ℕ, ◌+◌, ◌<◌, ◌≤◌, true, false, eqb, List, map, length, get_or, take, Option, sym, ap, ◌∙◌, subst, arith}
-use Rattle.std.proofs.lemmas.List.{take_all, get_or-map, length-map}
+-- The walk through a part of a contour, and round a contour.
+use Rattle.std.proofs.Common.{◌≡◌, ℕ, ◌+◌, ◌<◌, ◌≤◌, true, false, List, [], ◌∷◌, ◌++◌, map, length, get_or, take, drop, fold, set, is_err, None, Ok, Err, Option, Result, sym, refl, ap, ◌∙◌, subst, arith}
+use Rattle.std.proofs.lemmas.Bool.{false≢true}
+use Rattle.std.proofs.lemmas.List.{take_all, take-append-drop, get_or-map, length-map}
+use Rattle.std.proofs.lemmas.List.Sums.{fold-append, fold_more}
 use Rattle.outline.specs.declared.points.Point.{Point}
+use Rattle.segments.specs.declared.faults.BuildFault.{BuildFault}
+use Rattle.segments.specs.declared.fillings.Filling.{Filling}
 use Rattle.segments.specs.declared.measures.AxisPoint.{AxisPoint}
 use Rattle.segments.specs.declared.measures.Dimension.{Dimension}
 use Rattle.segments.specs.declared.tables.Segment.{Segment}
+use Rattle.segments.specs.Building.{Built, Visit, put, segs_of, lone_built, numbered, visits_of, once_round, walked, visited, fresh}
+use Rattle.segments.specs.Fillings.{Along, OpensAs, Closes, Moves, Met, Stands, Reached, Passed, BuiltAs}
 use Rattle.segments.specs.declared.states.State.{State}
-use Rattle.segments.specs.declared.walks.Walk.{Walk}
-use Rattle.segments.specs.declared.walks.Moved.{Moved}
-use Rattle.segments.specs.Walks.{moved}
-use Rattle.segments.specs.Segments.{segment_of}
+use Rattle.segments.specs.Closing.{survivor, place_of}
+use Rattle.segments.specs.States.{opened}
 use Rattle.segments.specs.Measures.{seen}
+use Rattle.segments.specs.Segments.{segment_of}
 use Rattle.segments.specs.Starts.{start_of}
-use Rattle.segments.specs.Building.{Built, Visit, put, segs_of, numbered, visits_of, wrap_at, walked, visited, follow, latest_with, count_with, table_with, CanSettle}
-use Rattle.segments.proofs.Rooms.{Sound, moved_sound}
-use Rattle.segments.proofs.Visits.{length-numbered, length-round, get_or-round}
-use Rattle.segments.proofs.Follow.{Follows, follows_more, can_settle, refuses, walked_more, room-walked}
+use Rattle.segments.specs.Walks.{moved}
+use Rattle.segments.proofs.Follow.{stepped, stands_none, room_visited, room_folded}
+use Rattle.segments.proofs.Puts.{put_one}
+use Rattle.segments.proofs.Steps.{after}
+use Rattle.segments.proofs.Visits.{length-numbered, get_or-numbered, back, round_parts}
 
-pub length_visits : (dim : Dimension) (ps : List AxisPoint) → start_of dim ps < length ps → length (visits_of dim ps) ≡ length ps + 1
-length_visits dim ps lt =
-    length-round (numbered 0 ps) (start_of dim ps) (omega (arith, length-numbered 0 ps)) ∙ ap (λ n. n + 1) (length-numbered 0 ps)
+room-taken : (dim : Dimension) (base : ℕ) (b : Built) (vs : List Visit) (k : ℕ) → (fold (visited dim base) b (take k vs)).room ≤ (fold (visited dim base) b vs).room
+room-taken dim base b vs k =
+    let e : fold (visited dim base) b vs ≡ fold (visited dim base) (fold (visited dim base) b (take k vs)) (drop k vs)
+    = ap (fold (visited dim base) b) (sym (take-append-drop k vs)) ∙ fold-append (visited dim base) b (take k vs) (drop k vs) in
+    omega (arith, room_folded dim base (fold (visited dim base) b (take k vs)) (drop k vs), ap (λ (b : Built). b.room) e)
 
-module _ (units h : ℕ) (t : List Segment) (dim : Dimension) (base : ℕ) (ps : List Point) (k : ℕ)
-    (walk : Walk) (latest : Option State) (n : ℕ) (table : List Segment) (s at : ℕ) (d : Point) (x : AxisPoint) (m : Moved)
-    (f : Follows units t h (walked dim base (take k (visits_of dim (map (seen dim) ps)))) walk latest n table)
-    (s-is : s ≡ start_of dim (map (seen dim) ps)) (s-in : s < length ps) (k-in : k ≤ length ps)
-    (at-is : at ≡ wrap_at (length ps) (s + k)) (at_in : at < length ps) (x-is : x ≡ seen dim (get_or ps at d))
-    (m-is : m ≡ moved dim walk (base + at) x (eqb k (length ps))) where
-  abbrev qs : List AxisPoint
-  qs = map (seen dim) ps
+-- the walk through the points ps, after k of them: from f to g
+pub record Passing (f g : Filling) (first : ℕ) (ps : List Point) (k : ℕ) : Type 0 where
+  pub along : Along f g
+  pub stands : (t : List Segment) (h base i : ℕ) (b : Built) → first ≡ base + i → Stands t h b f →
+      Stands t h (fold (visited f.dim base) b (take k (numbered i (map (seen f.dim) ps)))) g
 
-  abbrev before : Built
-  before = walked dim base (take k (visits_of dim (map (seen dim) ps)))
+pub passing_all : (f g : Filling) (first : ℕ) (ps : List Point) (k : ℕ) (x : Unit) → Passing f g first ps k → length ps ≤ k → Passed f g first ps (Ok x)
+passing_all f g first ps k x p le = λ t h base i b first_is s. (
+  p.along,
+  subst (λ (vs : List Visit). Stands t h (fold (visited f.dim base) b vs) g)
+      (take_all k (numbered i (map (seen f.dim) ps)) (omega (arith, length-numbered i (map (seen f.dim) ps), length-map ps (seen f.dim))))
+      (p.stands t h base i b first_is s),
+)
 
-  sound : Sound walk m
-  sound = subst (Sound walk) (sym m-is) (moved_sound dim walk (base + at) x (eqb k (length ps)))
+module _ (f g g' : Filling) (first : ℕ) (ps : List Point) (k : ℕ) (d : Point) (p : Passing f g first ps k) (lt : k < length ps)
+    (r : Result Unit BuildFault) (m : Met g g' (moved g.dim g.inside (first + k) (seen g.dim (get_or ps k d)) false) r) where
+  reached : (t : List Segment) (h base i : ℕ) (b : Built) → first ≡ base + i → Stands t h b f →
+      Reached g g' t h (fold (visited f.dim base) b (take (k + 1) (numbered i (map (seen f.dim) ps)))) r
+  reached t h base i b first_is s =
+      let v : Visit = record { at = i + k; point = seen g.dim (get_or ps k d); ends = false } in
+      let n : length (numbered i (map (seen f.dim) ps)) ≡ length ps
+      = length-numbered i (map (seen f.dim) ps) ∙ length-map ps (seen f.dim) in
+      let here : get_or (numbered i (map (seen f.dim) ps)) k v ≡ v
+      = get_or-numbered i (map (seen f.dim) ps) k v (seen f.dim d) (omega (arith, length-map ps (seen f.dim)))
+      ∙ ap (λ (x : AxisPoint). record { at = i + k; point = x; ends = false }) (get_or-map (seen f.dim) ps k d (seen f.dim d) lt)
+      ∙ ap (λ (e : Dimension). record { at = i + k; point = seen e (get_or ps k d); ends = false }) (sym p.along.dim_is) in
+      subst (λ (c : Built). Reached g g' t h c r)
+      (sym (fold_more (visited f.dim base) b (numbered i (map (seen f.dim) ps)) k v (omega arith)
+      ∙ ap (visited f.dim base (fold (visited f.dim base) b (take k (numbered i (map (seen f.dim) ps))))) here))
+      (stepped t h base f.dim (fold (visited f.dim base) b (take k (numbered i (map (seen f.dim) ps)))) g g' v (first + k) r
+      (p.stands t h base i b first_is s) p.along.dim_is (omega (arith, first_is)) m)
 
-  pub turn_can : 1001 ≤ length table → CanSettle n table latest m.closed
-  turn_can = can_settle units t h before walk latest n table f m sound
+pub passing_more : (f g g' : Filling) (first : ℕ) (ps : List Point) (k : ℕ) (d : Point) (x : Unit) → Passing f g first ps k → k < length ps →
+    Met g g' (moved g.dim g.inside (first + k) (seen g.dim (get_or ps k d)) false) (Ok x) →
+    Passing f g' first ps (k + 1)
+passing_more f g g' first ps k d x p lt m = record {
+  along = after p.along m.along;
+  stands = λ t h base i b first_is s. (reached f g g' first ps k d p lt (Ok x) m t h base i b first_is s).1;
+}
 
-  same_length : length ps ≡ length qs
-  same_length = sym (length-map ps (seen dim))
+reached_err : (f g : Filling) (t : List Segment) (h : ℕ) (b : Built) (r : Result Unit BuildFault) → is_err r ≡ true → 1001 < h + b.room → Reached f g t h b r
+reached_err f g t h b (Ok x) e over = absurd (false≢true e)
+reached_err f g t h b (Err x) e over = over
 
-  starts : start_of dim qs < length qs
-  starts = omega (arith, s-is, same_length)
+pub passing_breaks : (f g g' : Filling) (first : ℕ) (ps : List Point) (k : ℕ) (d : Point) (e : BuildFault) (r : Result Unit BuildFault) → Passing f g first ps k →
+    k < length ps → Met g g' (moved g.dim g.inside (first + k) (seen g.dim (get_or ps k d)) false) (Err e) → is_err r ≡ true → Passed f g' first ps r
+passing_breaks f g g' first ps k d e r p lt m err = λ t h base i b first_is s.
+    reached_err f g' t h (fold (visited f.dim base) b (numbered i (map (seen f.dim) ps))) r err
+    (omega (
+      arith,
+      reached f g g' first ps k d p lt (Err e) m t h base i b first_is s,
+      room-taken f.dim base b (numbered i (map (seen f.dim) ps)) (k + 1),
+    ))
 
-  at_place : at ≡ wrap_at (length qs) (start_of dim qs + k)
-  at_place = at-is ∙ ap (λ (i : ℕ). wrap_at i (s + k)) same_length ∙ ap (λ (i : ℕ). wrap_at (length qs) (i + k)) s-is
+built_err : (f g : Filling) (b : Built) (r : Result Unit BuildFault) → is_err r ≡ true → 1001 < f.held + b.room → BuiltAs f g b r
+built_err f g b (Ok x) e over = absurd (false≢true e)
+built_err f g b (Err x) e over = over
 
-  x-at : x ≡ get_or qs at x
-  x-at = x-is ∙ sym (get_or-map (seen dim) ps at d x at_in)
+pub head : (ps : List Point) → 0 < length ps → Point
+head [] lt = absurd (omega arith)
+head (p ∷ ps) lt = p
 
-  moves : m ≡ moved dim before.walk (base + wrap_at (length qs) (start_of dim qs + k))
-      (get_or qs (wrap_at (length qs) (start_of dim qs + k)) x) (eqb k (length qs))
-  moves =
-      m-is
-      ∙ ap (λ (i : ℕ). moved dim walk (base + at) x (eqb k i)) same_length
-      ∙ ap (λ (w : Walk). moved dim w (base + at) x (eqb k (length qs))) f.walks
-      ∙ ap (λ (q : AxisPoint). moved dim before.walk (base + at) q (eqb k (length qs))) x-at
-      ∙ ap (λ (i : ℕ). moved dim before.walk (base + i) (get_or qs i x) (eqb k (length qs))) at_place
+-- round a contour, from the place s back to it
+module _ (f : Filling) (first : ℕ) (ps : List Point) (s : ℕ) (d : Point) (lt : s < length ps) (s_is : s ≡ start_of f.dim (map (seen f.dim) ps))
+    (outside : f.inside ≡ None) (none : f.latest ≡ None) where
+  abbrev later : Built
+  later = fold (visited f.dim first) fresh (numbered s (map (seen f.dim) (drop s ps)))
 
-  turn_is : walked dim base (take (k + 1) (visits_of dim qs)) ≡ follow before m
-  turn_is =
-      walked_more dim base (visits_of dim qs) k (record { at = 0; point = x; ends = false }) (omega (arith, length_visits dim qs starts, same_length))
-      ∙ ap (visited dim base before) (get_or-round qs (start_of dim qs) k (record { at = 0; point = x; ends = false }) x starts (omega (arith, same_length)))
-      ∙ ap (follow before) (sym moves)
+  abbrev whole : Built
+  whole = fold (visited f.dim first) later (numbered 0 (map (seen f.dim) (take s ps)))
 
-  -- unless a segment opens there are few enough
-  quiet : (c : ℕ) → c ≡ count_with n latest m.closed → (m.opens ≡ true → c ≤ 1000) → m.opens ≡ true → count_with n latest m.closed ≤ 1000
-  quiet c c-is few e = omega (arith, few e)
+  abbrev round : Built
+  round = walked f.dim first (visits_of f.dim (map (seen f.dim) ps))
 
-  pub turn_follows : 1001 ≤ length t →
-      (l : Option State) (c : ℕ) (u : List Segment) → (m.opens ≡ true → c ≤ 1000) → l ≡ latest_with latest m.closed → c ≡ count_with n latest m.closed →
-      u ≡ table_with units table n latest m.closed →
-      Follows units t h (walked dim base (take (k + 1) (visits_of dim qs))) m.walk l c u
-  turn_follows long l c u ways l-is c-is u-is =
-      subst (λ (b : Built). Follows units t h b m.walk l c u) (sym turn_is)
-      (subst (λ (l : Option State). Follows units t h (follow before m) m.walk l c u) (sym l-is)
-      (subst (λ (c : ℕ). Follows units t h (follow before m) m.walk (latest_with latest m.closed) c u) (sym c-is)
-      (subst (λ (u : List Segment). Follows units t h (follow before m) m.walk (latest_with latest m.closed) (count_with n latest m.closed) u) (sym u-is)
-      (follows_more units t h before walk latest n table f m sound long (quiet c c-is ways)))))
+  round_is : round ≡ visited f.dim first whole (back f.dim ps s d lt)
+  unfolding walked
+  round_is =
+      ap (λ (i : ℕ). fold (visited f.dim first) fresh (once_round i (numbered 0 (map (seen f.dim) ps)))) (sym s_is)
+      ∙ ap (fold (visited f.dim first) fresh) (round_parts f.dim ps s d lt)
+      ∙ fold-append (visited f.dim first) fresh (numbered s (map (seen f.dim) (drop s ps))) (numbered 0 (map (seen f.dim) (take s ps)) ++ back f.dim ps s d lt ∷ [])
+      ∙ fold-append (visited f.dim first) later (numbered 0 (map (seen f.dim) (take s ps))) (back f.dim ps s d lt ∷ [])
 
-  pub turn_refuses : (c : ℕ) → c ≡ count_with n latest m.closed → m.opens ≡ true → 1000 < c →
-      1001 < h + (walked dim base (visits_of dim qs)).room
-  turn_refuses c c-is opens lt =
-      omega (
-        arith,
-        room-walked dim base (visits_of dim qs) (k + 1),
-        ap (λ (b : Built). b.room) turn_is,
-        refuses units t h before walk latest n table f m sound opens (omega arith),
-      )
+  room_whole : whole.room ≤ round.room
+  room_whole = omega (arith, room_visited f.dim first whole (back f.dim ps s d lt), ap (λ (b : Built). b.room) round_is)
 
-pub turn_ends : (units h : ℕ) (t : List Segment) (dim : Dimension) (base : ℕ) (ps : List AxisPoint) (k : ℕ)
-    (walk : Walk) (latest : Option State) (n : ℕ) (table : List Segment) →
-    start_of dim ps < length ps → length ps ≤ k →
-    Follows units t h (walked dim base (take (k + 1) (visits_of dim ps))) walk latest n table →
-    (h + (walked dim base (visits_of dim ps)).room ≤ 1001) × (n ≡ h + length (segs_of (walked dim base (visits_of dim ps)))) ×
-    (table ≡ put t h (map (segment_of units) (segs_of (walked dim base (visits_of dim ps))))) × (n ≤ 1001)
-turn_ends units h t dim base ps k walk latest n table starts le f =
-    let all : take (k + 1) (visits_of dim ps) ≡ visits_of dim ps = take_all (k + 1) (visits_of dim ps) (omega (arith, length_visits dim ps starts)) in
-    let g : Follows units t h (walked dim base (visits_of dim ps)) walk latest n table
-    = subst (λ (vs : List Visit). Follows units t h (walked dim base vs) walk latest n table) all f in
-    (g.fits, g.counts, g.tables, omega (arith, g.fits, g.counts, g.holds))
+  module _ (g : Filling) where
+    first_part : (us : List Point) (r : Result Unit BuildFault) → us ≡ drop s ps → Passed f g (first + s) us r → Reached f g f.table.now f.held later r
+    first_part us r us_is p =
+        subst (λ (us : List Point). Reached f g f.table.now f.held (fold (visited f.dim first) fresh (numbered s (map (seen f.dim) us))) r) us_is
+        (p f.table.now f.held first s fresh refl (stands_none f outside none))
+
+    pub round-breaks : (us : List Point) (e : BuildFault) (r : Result Unit BuildFault) → us ≡ drop s ps → Passed f g (first + s) us (Err e) →
+        is_err r ≡ true → BuiltAs f g round r
+    round-breaks us e r us_is p err =
+        built_err f g round r err
+        (omega (arith, first_part us (Err e) us_is p, room_folded f.dim first later (numbered 0 (map (seen f.dim) (take s ps))), room_whole))
+
+    module _ (g' : Filling) (us vs : List Point) (x : Unit) (us_is : us ≡ drop s ps) (vs_is : vs ≡ take s ps) (p : Passed f g (first + s) us (Ok x)) where
+      second_part : (r : Result Unit BuildFault) → Passed g g' first vs r → Reached g g' f.table.now f.held whole r
+      second_part r q =
+          let a = first_part us (Ok x) us_is p in
+          subst (λ (e : Dimension). Reached g g' f.table.now f.held (fold (visited e first) later (numbered 0 (map (seen e) (take s ps)))) r) a.0.dim_is
+          (subst (λ (vs : List Point). Reached g g' f.table.now f.held (fold (visited g.dim first) later (numbered 0 (map (seen g.dim) vs))) r) vs_is
+          (q f.table.now f.held first 0 later (omega arith) a.1))
+
+      pub round-breaks_late : (e : BuildFault) (r : Result Unit BuildFault) → Passed g g' first vs (Err e) → is_err r ≡ true → BuiltAs f g' round r
+      round-breaks_late e r q err = built_err f g' round r err (omega (arith, second_part (Err e) q, room_whole))
+
+      pub round-built : (h : Filling) (y z : Unit) → Passed g g' first vs (Ok y) →
+          Moves g' h (moved g'.dim g'.inside (first + s) (seen g'.dim (get_or ps s d)) true) → BuiltAs f h round (Ok z)
+      round-built h y z q m =
+          let a = first_part us (Ok x) us_is p in
+          let b = second_part (Ok y) q in
+          let dim_is : g'.dim ≡ f.dim = b.0.dim_is ∙ a.0.dim_is in
+          let n = stepped f.table.now f.held first f.dim whole g' h (back f.dim ps s d lt) (first + s) (Ok z) b.1 dim_is refl
+          (subst (λ (e : Dimension). Moves g' h (moved g'.dim g'.inside (first + s) (seen e (get_or ps s d)) true)) dim_is m) in
+          let along : Along f h = after (after a.0 b.0) n.0 in
+          subst (λ (c : Built). BuiltAs f h c (Ok z)) (sym round_is) (
+            along,
+            n.1.fits,
+            n.1.held_is,
+            n.1.table_is
+                ∙ ap (λ (u : ℕ). put f.table.now f.held (map (segment_of u) (segs_of (visited f.dim first whole (back f.dim ps s d lt))))) along.units_is,
+          )
+
+-- a contour of one point
+pub lone-built : (f g h : Filling) (first : ℕ) (p : AxisPoint) (x : Unit) → f.latest ≡ None → OpensAs f g (opened first p) → Closes g h (opened first p) →
+    BuiltAs f h (lone_built first p) (Ok x)
+lone-built f g h first p x none o c =
+    let l : g.latest ≡ None = o.latest_is ∙ none in (
+      after o.along c.along,
+      omega (arith, o.few),
+      c.held_is ∙ ap (λ (q : Option State). place_of g.held q (opened first p) + 1) l ∙ ap (λ (n : ℕ). n + 1) o.held_is,
+      c.table_is
+          ∙ ap (λ (q : Option State). set g.table.now (place_of g.held q (opened first p)) (segment_of g.units (survivor q (opened first p)))) l
+          ∙ ap (λ (n : ℕ). set g.table.now n (segment_of g.units (opened first p))) o.held_is
+          ∙ ap (λ (u : ℕ). set g.table.now f.held (segment_of u (opened first p))) o.along.units_is
+          ∙ ap (λ (r : List Segment). set r f.held (segment_of f.units (opened first p))) o.table_is
+          ∙ put_one f.table.now f.held _ (omega (arith, o.few, f.long)),
+    )

@@ -1,15 +1,17 @@
 -- The walk falls into rows.
-use Rattle.std.proofs.Common.{◌≡◌, ℕ, zero, suc, ◌+◌, ◌<◌, Bool, true, false, cond, not, ◌&&◌, List, [], ◌∷◌, ◌++◌, map, length, get_or, take, drop, Some, None, fold, filter, Option, sym, refl, ap, ◌∙◌, subst, append_assoc, arith}
+use Rattle.std.proofs.Common.{◌≡◌, ℕ, ◌+◌, ◌<◌, Bool, true, false, cond, not, ◌&&◌, List, [], ◌∷◌, ◌++◌, map, length, get_or, take, drop, Some, None, fold, filter, Option, sym, refl, ap, ◌∙◌, subst, append_assoc, arith}
+use Rattle.std.specs.Option.{option_to_list}
 use Rattle.std.specs.List.{AllByRecursion}
+use Rattle.std.proofs.Math.Bool.{and-true}
 use Rattle.std.proofs.ByRecursion.{All-append, All-push, All-take, All-drop}
 use Rattle.std.proofs.lemmas.List.{append-nil, drop_more}
-use Rattle.std.proofs.lemmas.Bool.{both_ways, eqb-true, and_left, and_right, and_parts, not_from_true}
-use Rattle.outline.specs.Directions.{code, same}
+use Rattle.std.proofs.lemmas.Bool.{both_ways, and_left, and_right, and_parts, not_from_true}
+use Rattle.outline.specs.Directions.{same}
+use Rattle.outline.proofs.Same.{same_means, means_same}
 use Rattle.outline.specs.declared.directions.Direction.{Direction}
-use Rattle.outline.specs.declared.directions.Direction.TheVariants as direction
 use Rattle.segments.specs.declared.measures.AxisPoint.{AxisPoint}
 use Rattle.segments.specs.declared.measures.Dimension.{Dimension}
-use Rattle.segments.specs.Building.{Visit, list_of, numbered, ending, once_round, visits_of}
+use Rattle.segments.specs.Building.{Visit, numbered, ending, once_round, visits_of}
 use Rattle.segments.specs.Measures.{on_line}
 use Rattle.segments.specs.Rows.{visits_in, front, fronts, heading, goes, Row, ContoursFall}
 use Rattle.segments.specs.Starts.{on, start_of, Last}
@@ -17,35 +19,6 @@ use Rattle.segments.specs.Stretches.{Taken, lone, more, last_of, Stretch, Went, 
 use Rattle.segments.proofs.Runs.{starts_in}
 use Rattle.segments.proofs.Visits.{length-numbered}
 use Rattle.segments.proofs.Merges.{Placed, placed-more, Sorted, placed-all}
-
--- directions of one code are one
-named : ℕ → Direction
-named zero = direction.None
-named (suc zero) = direction.Right
-named (suc (suc zero)) = direction.Left
-named (suc (suc (suc zero))) = direction.Up
-named (suc (suc (suc (suc n)))) = direction.Down
-
-name_is : (d : Direction) → named (code d) ≡ d
-unfolding named
-name_is direction.None = refl
-name_is direction.Right = refl
-name_is direction.Left = refl
-name_is direction.Up = refl
-name_is direction.Down = refl
-
-same_true : (d e : Direction) → same d e ≡ true → d ≡ e
-same_true d e h = sym (name_is d) ∙ ap named (eqb-true (code d) (code e) h) ∙ name_is e
-
-same_refl : (d e : Direction) → d ≡ e → same d e ≡ true
-same_refl d e h = ap (same d) (sym h) ∙ self d
-  where
-    self : (d : Direction) → same d d ≡ true
-    self direction.None = refl
-    self direction.Right = refl
-    self direction.Left = refl
-    self direction.Up = refl
-    self direction.Down = refl
 
 last_push : (P : Visit → Type 0) (vs : List Visit) (v : Visit) → P v → Last P (vs ++ v ∷ [])
 last_push P [] v h = h
@@ -69,10 +42,6 @@ all-last P (more t v) h = end (visits_in t) h
     end [] k = k.0
     end (u ∷ vs) k = end vs k.1
 
-and_true : (b : Bool) → (b && true) ≡ b
-and_true true = refl
-and_true false = refl
-
 kept_split : (b : Bool) (v : Visit) (vs : List Visit) → cond b (v ∷ vs) vs ≡ cond b (v ∷ []) [] ++ vs
 kept_split true v vs = refl
 kept_split false v vs = refl
@@ -84,7 +53,7 @@ fronts-append (t ∷ ts) us = ap (λ (r : List Visit). front t ++ r) (fronts-app
 -- the rows that close from here on
 abbrev rows_from : Dimension → Option Taken → List Visit → List Taken
 rows_from dim o [] = []
-rows_from dim o (v ∷ vs) = list_of (went dim o v).closed ++ rows_from dim (went dim o v).inside vs
+rows_from dim o (v ∷ vs) = option_to_list (went dim o v).closed ++ rows_from dim (went dim o v).inside vs
 
 module _ (dim : Dimension) (vs : List Visit) where
   -- the points of the open row
@@ -106,8 +75,8 @@ module _ (dim : Dimension) (vs : List Visit) where
 
   record Step (pre : List Visit) (o : Option Taken) (v : Visit) (w : Went) : Type 0 where
     comes : Came (pre ++ v ∷ []) w.inside
-    shuts : AllByRecursion (Row dim vs) (list_of w.closed)
-    holds : open_visits o ++ cond (goes dim v) (v ∷ []) [] ≡ fronts (list_of w.closed) ++ open_visits w.inside
+    shuts : AllByRecursion (Row dim vs) (option_to_list w.closed)
+    holds : open_visits o ++ cond (goes dim v) (v ∷ []) [] ≡ fronts (option_to_list w.closed) ++ open_visits w.inside
 
   module _ (pre post : List Visit) (v : Visit) (vs-is : vs ≡ pre ++ v ∷ post) where
     abbrev dir : Direction
@@ -163,7 +132,7 @@ module _ (dim : Dimension) (vs : List Visit) where
           (subst (Last (λ u. u.point.out_dir ≡ v.point.out_dir → ⊥)) (sym o.along)
           (last_in (λ u. u.point.out_dir ≡ v.point.out_dir → ⊥) o.before t
           (λ e. both_ways (same v.point.out_dir (heading t)) shut
-          (same_refl v.point.out_dir (heading t)
+          (means_same v.point.out_dir (heading t)
           (sym e ∙ (all-last (λ u. (goes dim u ≡ true) × (u.point.out_dir ≡ heading t)) t o.runs).1))))) g l;
       shuts = (closes_row t o (and_left (same v.point.out_dir (heading t)) (not v.ends) shut), tt);
       holds = ap (λ (b : Bool). visits_in t ++ cond b (v ∷ []) []) g ∙ ap (λ (r : List Visit). r ++ v ∷ []) (sym (append-nil (visits_in t)));
@@ -175,14 +144,14 @@ module _ (dim : Dimension) (vs : List Visit) where
     }
 
     goes_is : v.ends ≡ false → on dim v.point ≡ goes dim v
-    goes_is e = sym (ap (λ (b : Bool). on dim v.point && not b) e ∙ and_true (on dim v.point))
+    goes_is e = sym (ap (λ (b : Bool). on dim v.point && not b) e ∙ and-true (on dim v.point))
 
     -- inside a segment
     inside_by : (j : Bool) (t : Taken) → (same v.point.out_dir (heading t) && not v.ends) ≡ j → v.ends ≡ false → Open pre t →
         Step pre (Some t) v (cond j (record { closed = None; opens = false; inside = Some (more t v) }) (enters dim (Some (more t v)) v))
     inside_by true t s e o =
         let d : v.point.out_dir ≡ heading t
-        = same_true v.point.out_dir (heading t) (and_parts (same v.point.out_dir (heading t)) (not v.ends) s).0 in
+        = same_means v.point.out_dir (heading t) (and_parts (same v.point.out_dir (heading t)) (not v.ends) s).0 in
         let g : goes dim v ≡ true = sym (goes_is e) ∙ ap (on_line dim) d ∙ o.line in
         record {
           comes = goes_on t o d g;
@@ -191,7 +160,7 @@ module _ (dim : Dimension) (vs : List Visit) where
         }
     inside_by false t s e o =
         enters_some (goes dim v) t refl (goes_is e) o
-        (sym (and_true (same v.point.out_dir (heading t))) ∙ ap (λ (b : Bool). same v.point.out_dir (heading t) && not b) (sym e) ∙ s)
+        (sym (and-true (same v.point.out_dir (heading t))) ∙ ap (λ (b : Bool). same v.point.out_dir (heading t) && not b) (sym e) ∙ s)
 
     -- a point at which the walk does not end
     steps : (o : Option Taken) → v.ends ≡ false → Came pre o → Step pre o v (went dim o v)
@@ -200,14 +169,14 @@ module _ (dim : Dimension) (vs : List Visit) where
 
     -- the point at which it ends
     record End (o : Option Taken) (w : Went) : Type 0 where
-      shuts : AllByRecursion (Row dim vs) (list_of w.closed)
-      holds : open_visits o ++ cond (goes dim v) (v ∷ []) [] ≡ fronts (list_of w.closed)
+      shuts : AllByRecursion (Row dim vs) (option_to_list w.closed)
+      holds : open_visits o ++ cond (goes dim v) (v ∷ []) [] ≡ fronts (option_to_list w.closed)
 
     not_going : v.ends ≡ true → goes dim v ≡ false
     not_going e = and_right (on dim v.point) (not v.ends) (not_from_true v.ends e)
 
-    ends_by : (j : Bool) (o : Option Taken) (closed : Option Taken) → goes dim v ≡ j → j ≡ false → AllByRecursion (Row dim vs) (list_of closed) →
-        open_visits o ++ [] ≡ fronts (list_of closed) →
+    ends_by : (j : Bool) (o : Option Taken) (closed : Option Taken) → goes dim v ≡ j → j ≡ false → AllByRecursion (Row dim vs) (option_to_list closed) →
+        open_visits o ++ [] ≡ fronts (option_to_list closed) →
         End o (cond j (record { closed = closed; opens = true; inside = Some (lone v) }) (record { closed = closed; opens = false; inside = None }))
     ends_by true o closed g f h e = absurd (both_ways true f refl)
     ends_by false o closed g f h e = record { shuts = h; holds = ap (λ (b : Bool). open_visits o ++ cond b (v ∷ []) []) g ∙ e }
@@ -233,28 +202,28 @@ module _ (dim : Dimension) (vs : List Visit) where
   rows_told pre [] last o e a f c =
       let w : End pre [] last e o (went dim o last) = ends-row pre [] last e o f c in
       record {
-        rows = All-append (Row dim vs) (list_of (went dim o last).closed) [] w.shuts tt;
-        holds = w.holds ∙ ap fronts (sym (append-nil (list_of (went dim o last).closed)));
+        rows = All-append (Row dim vs) (option_to_list (went dim o last).closed) [] w.shuts tt;
+        holds = w.holds ∙ ap fronts (sym (append-nil (option_to_list (went dim o last).closed)));
       }
   rows_told pre (v ∷ init) last o e a f c =
       let w : Step pre o v (went dim o v) = steps pre (init ++ last ∷ []) v e o a.0 c in
       let r : Told (went dim o v).inside (init ++ last ∷ [])
       = rows_told (pre ++ v ∷ []) init last (went dim o v).inside (e ∙ sym (append_assoc pre (v ∷ []) (init ++ last ∷ []))) a.1 f w.comes in
       record {
-        rows = All-append (Row dim vs) (list_of (went dim o v).closed) (rows_from dim (went dim o v).inside (init ++ last ∷ [])) w.shuts r.rows;
+        rows = All-append (Row dim vs) (option_to_list (went dim o v).closed) (rows_from dim (went dim o v).inside (init ++ last ∷ [])) w.shuts r.rows;
         holds =
             ap (λ (k : List Visit). open_visits o ++ k) (kept_split (goes dim v) v (filter (goes dim) (init ++ last ∷ [])))
             ∙ sym (append_assoc (open_visits o) (cond (goes dim v) (v ∷ []) []) (filter (goes dim) (init ++ last ∷ [])))
             ∙ ap (λ (k : List Visit). k ++ filter (goes dim) (init ++ last ∷ [])) w.holds
-            ∙ append_assoc (fronts (list_of (went dim o v).closed)) (open_visits (went dim o v).inside) (filter (goes dim) (init ++ last ∷ []))
-            ∙ ap (λ (k : List Visit). fronts (list_of (went dim o v).closed) ++ k) r.holds
-            ∙ sym (fronts-append (list_of (went dim o v).closed) (rows_from dim (went dim o v).inside (init ++ last ∷ [])));
+            ∙ append_assoc (fronts (option_to_list (went dim o v).closed)) (open_visits (went dim o v).inside) (filter (goes dim) (init ++ last ∷ []))
+            ∙ ap (λ (k : List Visit). fronts (option_to_list (went dim o v).closed) ++ k) r.holds
+            ∙ sym (fronts-append (option_to_list (went dim o v).closed) (rows_from dim (went dim o v).inside (init ++ last ∷ [])));
       }
 
 -- the rows are placed one after another
 module _ (dim : Dimension) where
   places-one : (ts : List Taken) (done : List Stretch) (latest : Option Stretch) (closed : Option Taken) → Placed ts done latest →
-      Placed (ts ++ list_of closed) (earlier done latest closed) (newest latest closed)
+      Placed (ts ++ option_to_list closed) (earlier done latest closed) (newest latest closed)
   places-one ts done latest None p = subst (λ (r : List Taken). Placed r done latest) (sym (append-nil ts)) p
   places-one ts done latest (Some t) p = placed-more ts done latest t p
 
@@ -263,8 +232,8 @@ module _ (dim : Dimension) where
   places c [] ts p = subst (λ (r : List Taken). Placed r c.done c.latest) (sym (append-nil ts)) p
   places c (v ∷ vs) ts p =
       subst (λ (r : List Taken). Placed r (fold (coursed dim) c (v ∷ vs)).done (fold (coursed dim) c (v ∷ vs)).latest)
-      (append_assoc ts (list_of (went dim c.inside v).closed) (rows_from dim (went dim c.inside v).inside vs))
-      (places (coursed dim c v) vs (ts ++ list_of (went dim c.inside v).closed)
+      (append_assoc ts (option_to_list (went dim c.inside v).closed) (rows_from dim (went dim c.inside v).inside vs))
+      (places (coursed dim c v) vs (ts ++ option_to_list (went dim c.inside v).closed)
       (places-one ts c.done c.latest (went dim c.inside v).closed p))
 
   course_sorted : (vs : List Visit) → Sorted (rows_from dim None vs) (stretches_of (course dim vs))

@@ -1,18 +1,15 @@
 -- The segments of a contour, as the builder makes them: a fold over the points that the walk meets.
-use Rattle.std.specs.Prelude.{◌≡◌, ℕ, ◌+◌, ◌-◌, ◌<◌, ◌≤◌, max, Bool, true, false, cond, List, [], ◌∷◌, ◌++◌, map, length, take, drop, Some, None, Ok, Err, fold, Option, Result, nat_lt, slice_set}
-use Rattle.segments.specs.declared.faults.BuildFault.{BuildFault}
+use Rattle.std.specs.Prelude.{ℕ, ◌+◌, max, Bool, true, false, cond, List, [], ◌∷◌, ◌++◌, map, length, take, drop, Some, None, fold, Option, slice_set}
+use Rattle.std.specs.Option.{option_to_list}
 use Rattle.segments.specs.declared.measures.AxisPoint.{AxisPoint}
 use Rattle.segments.specs.declared.measures.Dimension.{Dimension}
 use Rattle.segments.specs.declared.states.State.{State}
 use Rattle.segments.specs.declared.tables.Segment.{Segment}
-use Rattle.segments.specs.declared.walks.Moved.{Moved}
-use Rattle.segments.specs.declared.walks.Walk.{Walk}
-use Rattle.segments.specs.declared.walks.Walk.TheVariants.{Between}
 use Rattle.segments.specs.Closing.{joins, survivor, place_of}
 use Rattle.segments.specs.Segments.{segment_of}
 use Rattle.segments.specs.Starts.{start_of}
 use Rattle.segments.specs.States.{opened}
-use Rattle.segments.specs.Walks.{moved}
+use Rattle.segments.specs.Walks.{Moved, moved}
 
 -- a point that the walk meets: its place in the contour, and whether the walk ends there
 pub record Visit : Type 0 where
@@ -37,26 +34,21 @@ once_round s vs = drop s vs ++ (take s vs ++ map ending (take 1 (drop s vs)))
 abbrev pub visits_of : Dimension → List AxisPoint → List Visit
 visits_of dim ps = once_round (start_of dim ps) (numbered 0 ps)
 
--- one or none, as a list
-abbrev pub list_of : {X : Type 0} → Option X → List X
-list_of None = []
-list_of (Some x) = x ∷ []
-
--- the walk, the contour's segments before the latest, the latest, and the most that were held at once, an open one among them
+-- the segment that the walk is inside of, the contour's segments before the latest, the latest, and the most that were held at once, an open one among them
 pub record Built : Type 0 where
-  pub walk : Walk
+  pub walk : Option State
   pub done : List State
   pub latest : Option State
   pub room : ℕ
 
 -- the segments that are closed
 abbrev pub segs_of : Built → List State
-segs_of b = b.done ++ list_of b.latest
+segs_of b = b.done ++ option_to_list b.latest
 
 -- what a segment that closes, if one does, leaves
 abbrev pub done_with : List State → Option State → Option State → List State
 done_with done latest None = done
-done_with done latest (Some s) = cond (joins latest s) done (done ++ list_of latest)
+done_with done latest (Some s) = cond (joins latest s) done (done ++ option_to_list latest)
 
 abbrev pub latest_with : Option State → Option State → Option State
 latest_with latest None = latest
@@ -72,7 +64,7 @@ follow b m = record {
   walk = m.walk;
   done = done_with b.done b.latest m.closed;
   latest = latest_with b.latest m.closed;
-  room = room_with b.room m.opens (length (done_with b.done b.latest m.closed ++ list_of (latest_with b.latest m.closed)));
+  room = room_with b.room m.opens (length (done_with b.done b.latest m.closed ++ option_to_list (latest_with b.latest m.closed)));
 }
 
 -- points stand at their place in the contour, counted from base
@@ -81,7 +73,7 @@ visited dim base b v = follow b (moved dim b.walk (base + v.at) v.point v.ends)
 
 -- before the first step
 abbrev pub fresh : Built
-fresh = record { walk = Between; done = []; latest = None; room = 0 }
+fresh = record { walk = None; done = []; latest = None; room = 0 }
 
 -- the points that the walk meets, step after step
 unfoldable pub walked : Dimension → ℕ → List Visit → Built
@@ -89,7 +81,7 @@ walked dim base vs = fold (visited dim base) fresh vs
 
 -- a contour of one point opens and closes a segment
 abbrev pub lone_built : ℕ → AxisPoint → Built
-lone_built base p = record { walk = Between; done = []; latest = Some (opened base p); room = 1 }
+lone_built base p = record { walk = None; done = []; latest = Some (opened base p); room = 1 }
 
 -- a contour without points has no segment; with several points, it is walked round
 abbrev pub built_of : Dimension → ℕ → List AxisPoint → Built
@@ -106,21 +98,6 @@ abbrev pub table_with : ℕ → List Segment → ℕ → Option State → Option
 table_with units t n latest None = t
 table_with units t n latest (Some s) = slice_set t (place_of n latest s) (segment_of units (survivor latest s))
 
--- there is an entry for it
-abbrev pub CanSettle : ℕ → List Segment → Option State → Option State → Type 0
-CanSettle n t latest None = Unit {0}
-CanSettle n t latest (Some s) = (n < length t) × (joins latest s ≡ true → 0 < n)
-
 -- entries es from place h on
 unfoldable pub put : List Segment → ℕ → List Segment → List Segment
 put t h es = take h t ++ (es ++ drop (h + length es) t)
-
--- the answer for a contour that is built as b into a table t with h entries held; it is refused where more than 1,001 would be held at once
-abbrev pub Answer : ℕ → ℕ → List Segment → List Segment → Built → Result ℕ BuildFault → Type 0
-Answer units h t t' b (Ok n) =
-    (h + b.room ≤ 1001) × (n ≡ h + length (segs_of b)) × (t' ≡ put t h (map (segment_of units) (segs_of b))) × (n ≤ 1001)
-Answer units h t t' b (Err e) = 1001 < h + b.room
-
--- a place on a contour of n points, at most once round past its end
-abbrev pub wrap_at : ℕ → ℕ → ℕ
-wrap_at n i = cond (nat_lt i n) i (i - n)

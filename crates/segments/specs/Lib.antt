@@ -7,6 +7,7 @@ pub mod Walks
 pub mod Closing
 pub mod Starts
 pub mod Building
+pub mod Fillings
 pub mod Stretches
 pub mod Readings
 pub mod Told
@@ -14,3 +15,4 @@ pub mod Rows
 pub mod Laws
 pub mod Tried
 pub mod Refusals
+pub mod Words

@@ -53,11 +53,6 @@ abbrev pub Filled : Dimension → ℕ → List Point → List Contour → List S
 Filled dim units ps cs t t' (Ok n) = Fills dim units ps cs t t' n
 Filled dim units ps cs t t' (Err e) = overflows dim units ps 0 cs ≡ true
 
--- how many entries it uses: none, where it is refused
-abbrev pub used_by : Result ℕ BuildFault → ℕ
-used_by (Ok n) = n
-used_by (Err e) = 0
-
 -- a reading that is granted leaves the segments, and blank entries after them
 pub record Granted (dim : Dimension) (units : ℕ) (ps : List Point) (cs : List Contour) (t t' : List Segment) (n : ℕ) : Type 0 where
   pub fits : overflows dim units ps 0 cs ≡ false

@@ -1,6 +1,7 @@
 -- Where the walk round a contour begins.
-use Rattle.std.specs.Prelude.{◌≡◌, ℕ, ◌+◌, Bool, true, false, cond, ◌&&◌, List, [], ◌∷◌, take, drop, MatchBool}
+use Rattle.std.specs.Prelude.{◌≡◌, ℕ, ◌+◌, ◌<◌, Bool, true, false, cond, ◌&&◌, List, [], ◌∷◌, length, take, drop, Option, MatchBool, MatchOption, slice_index_or}
 use Rattle.std.specs.List.{AllByRecursion}
+use Rattle.outline.specs.declared.points.Point.{Point}
 use Rattle.segments.specs.declared.measures.AxisPoint.{AxisPoint}
 use Rattle.segments.specs.declared.measures.Dimension.{Dimension}
 use Rattle.segments.specs.Measures.{on_line}
@@ -22,6 +23,14 @@ abbrev pub last_on : Dimension → List AxisPoint → Bool
 last_on dim [] = false
 last_on dim (p ∷ []) = on dim p
 last_on dim (p ∷ q ∷ ps) = last_on dim (q ∷ ps)
+
+-- the place of the last point that is not left along the line, or none: all those after it are
+abbrev pub IsLastOff : Dimension → List Point → Option ℕ → Type 0
+IsLastOff dim ps at =
+    MatchOption at
+    ((k : ℕ) (d : Point) → k < length ps → on_line dim (slice_index_or ps k d).out_dir ≡ true)
+    (λ i. (i < length ps) × ((d : Point) → on_line dim (slice_index_or ps i d).out_dir ≡ false)
+    × ((k : ℕ) (d : Point) → i < k → k < length ps → on_line dim (slice_index_or ps k d).out_dir ≡ true))
 
 -- the earliest place from which on all points are on the line
 abbrev pub run_of : Dimension → List AxisPoint → ℕ

@@ -1,6 +1,7 @@
 -- The segments of a contour in the subject's words: each is the points that it took in, counted from the contour's start
 -- (af_latin_hints_compute_segments).
 use Rattle.std.specs.Prelude.{ℕ, ◌+◌, Bool, true, false, cond, not, ◌&&◌, List, [], ◌∷◌, ◌++◌, map, length, Some, None, fold, Option, ◌==◌, nat_lt}
+use Rattle.std.specs.Option.{option_to_list}
 use Rattle.outline.specs.Directions.{same}
 use Rattle.outline.specs.declared.points.Point.{Point}
 use Rattle.segments.specs.declared.measures.AxisPoint.{AxisPoint}
@@ -10,7 +11,7 @@ use Rattle.segments.specs.declared.states.Mark.{Mark}
 use Rattle.segments.specs.declared.states.Reach.{Reach}
 use Rattle.segments.specs.declared.states.State.{State}
 use Rattle.segments.specs.declared.tables.Segment.{Segment}
-use Rattle.segments.specs.Building.{Visit, list_of, visits_of, room_with}
+use Rattle.segments.specs.Building.{Visit, visits_of, room_with}
 use Rattle.segments.specs.Measures.{seen, lesser, greater, gap}
 use Rattle.segments.specs.Segments.{segment_of}
 use Rattle.segments.specs.Starts.{on}
@@ -129,7 +130,7 @@ unite_with (Some e) t = unite e (plain t)
 -- a segment that closes takes the place of the latest if they touch, and the next place if not
 abbrev pub earlier : List Stretch → Option Stretch → Option Taken → List Stretch
 earlier done latest None = done
-earlier done latest (Some t) = cond (touches latest t) done (done ++ list_of latest)
+earlier done latest (Some t) = cond (touches latest t) done (done ++ option_to_list latest)
 
 abbrev pub newest : Option Stretch → Option Taken → Option Stretch
 newest latest None = latest
@@ -141,7 +142,7 @@ onward c w = record {
   inside = w.inside;
   done = earlier c.done c.latest w.closed;
   latest = newest c.latest w.closed;
-  room = room_with c.room w.opens (length (earlier c.done c.latest w.closed ++ list_of (newest c.latest w.closed)));
+  room = room_with c.room w.opens (length (earlier c.done c.latest w.closed ++ option_to_list (newest c.latest w.closed)));
 }
 
 -- one point further
@@ -168,7 +169,7 @@ course_of dim (p ∷ q ∷ ps) = course dim (visits_of dim (p ∷ q ∷ ps))
 
 -- the segments that are closed
 abbrev pub stretches_of : Course → List Stretch
-stretches_of c = c.done ++ list_of c.latest
+stretches_of c = c.done ++ option_to_list c.latest
 
 -- the unlinked segments of a contour, with indices counted from its start
 unfoldable pub segments_of : Dimension → ℕ → List Point → List Segment

@@ -2,9 +2,9 @@
 ghost use Rattle.std.specs.Prelude.{◌≡◌};
 ghost use Rattle.segments.specs.Faults.{number};
 
-#[derive(Clone, Copy, PartialEq, Eq)]
+#[derive(Debug, Clone, Copy, PartialEq, Eq)]
 pub enum BuildFault {
-    TooManySegments,
+    TooManySegments = 17,
 }
 
 impl BuildFault {
@@ -12,8 +12,6 @@ impl BuildFault {
     pub fn number(self) -> u8
         ensures { result ≡ number self }
     {
-        match self {
-            BuildFault::TooManySegments => 17,
-        }
+        self as u8
     }
 }

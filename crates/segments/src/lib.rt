@@ -1,17 +1,16 @@
 // Segments of an outline along one axis.
 #![tactic(auto)]
 
-mod closing;
 mod faults;
+mod fillings;
 mod laws;
 mod majors;
 mod measures;
 mod readings;
-mod rounds;
 mod starts;
 mod states;
 mod tables;
-mod walks;
+mod words;
 
 pub use faults::BuildFault;
 pub use laws::{contours_stand_alone, segments_stand, tried_stands};

@@ -1,22 +1,22 @@
 // Points as they are read along an axis. Positions and coordinates are wrapped apart, so that neither meets the other.
 ghost use Rattle.std.specs.Prelude.{◌≡◌};
-ghost use Rattle.segments.specs.Measures.{seen, on_line, lesser, greater, middle, half_gap, before, nearer, farther, gap};
+ghost use Rattle.segments.specs.Measures.{seen, on_line, middle, half_gap, gap};
 
 use outline::{Direction, Point, PointKind};
 
 // The axis along which an outline is read.
-#[derive(Clone, Copy, PartialEq, Eq)]
+#[derive(Debug, Clone, Copy, PartialEq, Eq)]
 pub enum Dimension {
     Horizontal,
     Vertical,
 }
 
 // What is measured across a segment: x on the Horizontal axis, y on the Vertical.
-#[derive(Clone, Copy)]
+#[derive(Debug, Clone, Copy, PartialEq, Eq, PartialOrd, Ord)]
 pub struct Position(pub i16);
 
 // What is measured along a segment: y on the Horizontal axis, x on the Vertical.
-#[derive(Clone, Copy)]
+#[derive(Debug, Clone, Copy, PartialEq, Eq, PartialOrd, Ord)]
 pub struct Coordinate(pub i16);
 
 // What a reading asks of a point's record.
@@ -58,18 +58,6 @@ impl Dimension {
 }
 
 impl Position {
-    pub(crate) fn min(self, other: Position) -> Position
-        ensures { result ≡ lesser self other }
-    {
-        Position(self.0.min(other.0))
-    }
-
-    pub(crate) fn max(self, other: Position) -> Position
-        ensures { result ≡ greater self other }
-    {
-        Position(self.0.max(other.0))
-    }
-
     // Half the sum, rounded down.
     pub(crate) fn middle(self, other: Position) -> Position
         ensures { result ≡ middle self other }
@@ -86,24 +74,6 @@ impl Position {
 }
 
 impl Coordinate {
-    pub(crate) fn is_below(self, other: Coordinate) -> bool
-        ensures { result ≡ before self other }
-    {
-        self.0 < other.0
-    }
-
-    pub(crate) fn min(self, other: Coordinate) -> Coordinate
-        ensures { result ≡ nearer self other }
-    {
-        Coordinate(self.0.min(other.0))
-    }
-
-    pub(crate) fn max(self, other: Coordinate) -> Coordinate
-        ensures { result ≡ farther self other }
-    {
-        Coordinate(self.0.max(other.0))
-    }
-
     // How far apart the two are.
     pub(crate) fn gap(self, other: Coordinate) -> u16
         ensures { result ≡ gap self other }

@@ -1,20 +1,23 @@
 // Where the walk round a contour begins.
 ghost use Rattle.std.specs.Prelude.{◌≡◌, ◌<◌, ◌&&◌, map, length};
 ghost use Rattle.segments.specs.Measures.{seen, on_line};
-ghost use Rattle.segments.specs.Starts.{run_of, start_of};
+ghost use Rattle.segments.specs.Starts.{IsLastOff, run_of, start_of};
 
 use crate::measures::Dimension;
 use outline::{Direction, Point};
+
+// The last point that is not left along the axis line.
+fn last_off(points: &[Point], dim: Dimension) -> Option<usize>
+    ensures { IsLastOff dim points.now result }
+{
+    points.iter().rposition(|point| !dim.holds(point.out_dir))
+}
 
 // The earliest place from which on all points are left along the axis line.
 fn last_run(points: &[Point], dim: Dimension) -> usize
     ensures { result ≡ run_of dim (map (seen dim) points.now) }
 {
-    let mut start = points.len();
-    while start > 0 && dim.holds(points[start - 1].out_dir) {
-        start -= 1;
-    }
-    start
+    last_off(points, dim).map_or(0, |at| at + 1)
 }
 
 // Whether the first point and its predecessor, the last one, are both left along the axis line.

@@ -1,10 +1,11 @@
 // What a segment has taken in so far.
 ghost use Rattle.std.specs.Prelude.{◌≡◌};
+ghost use Rattle.outline.specs.Directions.{same};
 ghost use Rattle.segments.specs.States.{mark_of, is_control, lowered, raised, on_reach, span, short, opened, taken, extent, taller, merged, is_round};
 ghost use Rattle.segments.specs.Segments.{segment_of};
 
 use crate::measures::{AxisPoint, Coordinate, Position};
-use crate::tables::{NO_SCORE, Segment};
+use crate::tables::Segment;
 use outline::{Direction, PointKind};
 
 // A segment whose points on the curve span less than this part of the em may be round.
@@ -36,50 +37,41 @@ pub struct State {
     pub reach: Option<Reach>,
 }
 
-impl Mark {
-    fn of(point: AxisPoint) -> Mark
-        ensures { result ≡ mark_of point }
-    {
+impl From<AxisPoint> for Mark {
+    ghost from_gives = { λ point mark. mark ≡ mark_of point };
+
+    fn from(point: AxisPoint) -> Mark {
         Mark {
             at: point.coordinate,
             kind: point.kind,
         }
     }
+}
 
+impl Mark {
     fn is_control(self) -> bool
         ensures { result ≡ is_control self }
     {
-        match self.kind {
-            PointKind::Control => true,
-            PointKind::OnCurve => false,
-        }
+        self.kind == PointKind::Control
     }
 
-    // The lower of two ends, the earlier where they agree.
+    // The lower of two ends, the earlier where they agree. Tests, since `min_by_key` and `max_by_key` break a tie each its own way.
     fn lower(self, later: Mark) -> Mark
         ensures { result ≡ lowered self later }
     {
-        if later.at.is_below(self.at) {
-            later
-        } else {
-            self
-        }
+        if later.at < self.at { later } else { self }
     }
 
     // The higher of two ends, the earlier where they agree.
     fn higher(self, later: Mark) -> Mark
         ensures { result ≡ raised self later }
     {
-        if self.at.is_below(later.at) {
-            later
-        } else {
-            self
-        }
+        if self.at < later.at { later } else { self }
     }
 }
 
 impl Reach {
-    // The reach with one more point, which counts only on the curve.
+    // The reach with one more point, which counts only on the curve. A match, since it shows the three cases as they are.
     fn take_in(reach: Option<Reach>, point: AxisPoint) -> Option<Reach>
         ensures { result ≡ on_reach reach point }
     {
@@ -99,16 +91,6 @@ impl Reach {
     {
         self.low.gap(self.high)
     }
-
-    // Whether it spans less than a fourteenth of the em, as no points do.
-    fn is_short(reach: Option<Reach>, units: u16) -> bool
-        ensures { result ≡ short units reach }
-    {
-        match reach {
-            None => true,
-            Some(reach) => reach.span() < units / FLAT_PART,
-        }
-    }
 }
 
 impl State {
@@ -116,7 +98,7 @@ impl State {
     pub fn open(at: u16, point: AxisPoint) -> State
         ensures { result ≡ opened at point }
     {
-        let mark = Mark::of(point);
+        let mark = Mark::from(point);
         State {
             dir: point.out_dir,
             first: at,
@@ -129,20 +111,26 @@ impl State {
         }
     }
 
+    // Whether the segment goes on past a point.
+    pub fn goes_on(self, point: AxisPoint) -> bool
+        ensures { result ≡ same point.out_dir self.dir }
+    {
+        point.out_dir == self.dir
+    }
+
     // The same with one more point.
     pub fn take_in(self, at: u16, point: AxisPoint) -> State
         ensures { result ≡ taken self at point }
     {
-        let mark = Mark::of(point);
+        let mark = Mark::from(point);
         State {
-            dir: self.dir,
-            first: self.first,
             last: at,
             least: self.least.min(point.position),
             greatest: self.greatest.max(point.position),
             low: self.low.lower(mark),
             high: self.high.higher(mark),
             reach: Reach::take_in(self.reach, point),
+            ..self
         }
     }
 
@@ -168,23 +156,26 @@ impl State {
     pub fn merge(self, later: State) -> State
         ensures { result ≡ merged self later }
     {
-        let kept = self.taller(later);
         State {
-            dir: kept.dir,
-            first: kept.first,
             last: later.last,
             least: self.least.min(later.least),
             greatest: self.greatest.max(later.greatest),
-            low: kept.low,
-            high: kept.high,
-            reach: kept.reach,
+            ..self.taller(later)
         }
+    }
+
+    // Whether the points on the curve span less than a fourteenth of the em, as no points do.
+    fn is_flat(self, units: u16) -> bool
+        ensures { result ≡ short units self.reach }
+    {
+        self.reach
+            .is_none_or(|reach| reach.span() < units / FLAT_PART)
     }
 
     fn is_round(self, units: u16) -> bool
         ensures { result ≡ is_round units self }
     {
-        (self.low.is_control() || self.high.is_control()) && Reach::is_short(self.reach, units)
+        (self.low.is_control() || self.high.is_control()) && self.is_flat(units)
     }
 
     pub fn segment(self, units: u16) -> Segment
@@ -198,11 +189,9 @@ impl State {
             max_coord: self.high.at,
             height: self.extent(),
             round: self.is_round(units),
-            score: NO_SCORE,
-            link: None,
-            serif: None,
             first: self.first,
             last: self.last,
+            ..Segment::blank()
         }
     }
 }

@@ -5,10 +5,10 @@ ghost use Rattle.segments.specs.Segments.{blank};
 use crate::measures::{Coordinate, Position};
 use outline::Direction;
 
-// The score of a segment that has no partner.
+// The score of a segment that has no partner: a number and no Option, since it is compared and printed as any other.
 pub const NO_SCORE: u32 = 32000;
 
-#[derive(Clone, Copy)]
+#[derive(Debug, Clone, Copy, PartialEq, Eq)]
 pub struct Segment {
     pub dir: Direction,
     pub pos: Position,
@@ -19,7 +19,7 @@ pub struct Segment {
     pub height: u16,
     pub round: bool,
     pub score: u32,
-    // indices into the table
+    // indices into the table, as the caller lends it and no memory is taken
     pub link: Option<u16>,
     pub serif: Option<u16>,
     // indices of points

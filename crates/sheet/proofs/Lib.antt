@@ -1,4 +1,8 @@
-pub mod Tiled
-pub mod Placed
-pub mod Standing
-pub mod Built
+pub mod Outcomes
+pub mod Spans
+pub mod Fresh
+pub mod Read
+pub mod Redrawn
+pub mod Runs
+pub mod Alone
+pub mod Moved

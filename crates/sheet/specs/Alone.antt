@@ -1,59 +1,50 @@
--- A contour's segments depend on no other contour.
-use Rattle.std.specs.Prelude.{◌≡◌, ℕ, ◌+◌, ◌-◌, Bool, true, false, ◌||◌, List, [], ◌∷◌, ◌++◌, map, length, ℤ, Ok, Err, vec_items, Result, nat_lt}
-use Rattle.outline.specs.declared.points.DrawnPoint.{DrawnPoint}
-use Rattle.outline.specs.Units.{near_limit}
-use Rattle.analysis.specs.Outlines.{outline_records}
-use Rattle.analysis.specs.Areas.{orientation_of, total_area}
-use Rattle.analysis.specs.Records.{analysed}
-use Rattle.linking.specs.Links.{linked_table}
-use Rattle.linking.specs.Rules.{rule_by}
+-- Contours stand alone: what a contour is like on a sheet depends on no other contour.
+use Rattle.std.specs.Prelude.{◌≡◌, ℕ, ◌+◌, ◌-◌, ◌<◌, Bool, List, [], map, length, ℤ, Ok, slice_index_or}
+use Rattle.std.specs.List.{between}
+use Rattle.outline.specs.declared.points.Point.{Point}
+use Rattle.outline.specs.Corners.{SameMeaning}
+use Rattle.analysis.specs.Outlines.{Contours, first_of}
 use Rattle.segments.specs.declared.measures.Dimension.{Dimension}
 use Rattle.segments.specs.declared.tables.Segment.{Segment}
-use Rattle.segments.specs.Majors.{major}
-use Rattle.segments.specs.Readings.{blanks}
-use Rattle.segments.specs.Stretches.{segments_of, most_of, shifted}
-use Rattle.sheet.specs.declared.outlines.Outline.{Outline}
-use Rattle.sheet.specs.declared.outlines.reading.ReadFault.{ReadFault}
-use Rattle.sheet.specs.declared.outlines.reading.ReadFault.TheVariants.{TableTooShort, Build}
-use Rattle.sheet.specs.Books.{book}
-use Rattle.sheet.specs.Placing.{Contours}
+use Rattle.reading.specs.Own.{own_segments}
+use Rattle.sheet.specs.declared.sheets.Sheet.{Sheet}
+use Rattle.sheet.specs.Book.{Call, Answer, book_after}
+use Rattle.sheet.specs.Sheets.{records_of, Readings, Run, Fresh}
 
--- over the meaning of a corner rule
-module _ (flat : ℤ → ℤ → ℤ → ℤ → Bool) (dim : Dimension) (units : ℕ) where
-  -- a contour's unlinked segments, indices counted from its start: its points, the units and the corner rule decide them
-  abbrev pub contour_segments : List DrawnPoint → List Segment
-  contour_segments c = segments_of dim units (analysed flat (near_limit units) 0 c)
+-- a point record, its neighbours counted from the index f
+abbrev pub counted_from : ℕ → Point → Point
+counted_from f p = record {
+  flags = p.flags;
+  x = p.x;
+  y = p.y;
+  in_dir = p.in_dir;
+  out_dir = p.out_dir;
+  next_ix = p.next_ix - f;
+  prev_ix = p.prev_ix - f;
+}
 
-  -- those of contour after contour, from the index b on, each moved up to its contour's place
-  abbrev pub drawn_segments : ℕ → Contours → List Segment
-  drawn_segments b [] = []
-  drawn_segments b (c ∷ cs) = map (shifted b) (contour_segments c) ++ drawn_segments (b + length c) cs
+-- where contour k of cs ends: after its last point
+abbrev pub end_of : Contours → ℕ → ℕ
+end_of cs k = first_of cs k + length (slice_index_or cs k [])
 
-  -- whether a segment opens while more than 1,000 are held, with h held before
-  abbrev pub crowded : ℕ → Contours → Bool
-  crowded h [] = false
-  crowded h (c ∷ cs) =
-      nat_lt 1001 (h + most_of dim (analysed flat (near_limit units) 0 c)) || crowded (h + length (contour_segments c)) cs
+-- the records of contour k of cs among all records, counted from its start
+abbrev pub own_records : Contours → ℕ → List Point → List Point
+own_records cs k ps = map (counted_from (first_of cs k)) (between (first_of cs k) (end_of cs k) ps)
 
--- the outline's records are those of its drawing by this rule
-abbrev pub Analysed : (ℤ → ℤ → ℤ → ℤ → Bool) → Outline → Type 0
-Analysed flat o = vec_items o.points ≡ outline_records flat (near_limit o.settings.units) 0 (book o.drawing)
+-- over what the corner rules of two types mean
+module _ {R Q : Type 0} (flat : R → ℤ → ℤ → ℤ → ℤ → Bool) (flat' : Q → ℤ → ℤ → ℤ → ℤ → Bool) where
+  -- Contour k of the sheet s, whose book is cs, and contour l of the sheet t, whose book is ds, have the same point records and, in
+  -- readings of one axis that are granted, the same unlinked segments in order, all indices counted from the contour's start.
+  pub record SameAlone (cs ds : Contours) (k l : ℕ) (s : Sheet R) (t : Sheet Q) : Type 0 where
+    pub points : own_records cs k (records_of s) ≡ own_records ds l (records_of t)
+    pub segments : (dim : Dimension) (a a' b b' : List Segment) (n m : ℕ) → Readings flat s dim a (Ok n) a' → Readings flat' t dim b (Ok m) b'
+        → own_segments (first_of cs k) (end_of cs k) n a' ≡ own_segments (first_of ds l) (end_of ds l) m b'
 
--- what building answers and leaves in a table t that is long enough, by the contours alone
-abbrev pub BuiltAlone : (ℤ → ℤ → ℤ → ℤ → Bool) → Dimension → Outline → List Segment → List Segment → Result ℕ ReadFault → Type 0
-BuiltAlone flat dim o t t' (Ok n) =
-    (crowded flat dim o.settings.units 0 (book o.drawing) ≡ false)
-    × (n ≡ length (drawn_segments flat dim o.settings.units 0 (book o.drawing)))
-    × (t' ≡ drawn_segments flat dim o.settings.units 0 (book o.drawing) ++ blanks (length t - n))
-BuiltAlone flat dim o t t' (Err (Build f)) =
-    (crowded flat dim o.settings.units 0 (book o.drawing) ≡ true) × (t' ≡ blanks (length t))
-BuiltAlone flat dim o t t' (Err TableTooShort) = ⊥
-
--- what a reading answers and leaves in a table t that is long enough, by the contours alone: the same, with the segments linked
-abbrev pub LinkedAlone : (ℤ → ℤ → ℤ → ℤ → Bool) → Dimension → Outline → List Segment → List Segment → Result ℕ ReadFault → Type 0
-LinkedAlone flat dim o t t' (Ok n) =
-    (crowded flat dim o.settings.units 0 (book o.drawing) ≡ false)
-    × (n ≡ length (drawn_segments flat dim o.settings.units 0 (book o.drawing)))
-    × (t' ≡ linked_table (rule_by o.settings (major dim (orientation_of (total_area (book o.drawing))))) n
-    (drawn_segments flat dim o.settings.units 0 (book o.drawing) ++ blanks (length t - n)))
-LinkedAlone flat dim o t t' (Err f) = BuiltAlone flat dim o t t' (Err f)
+  -- Contours stand alone: two sheets of equal units and rules of one meaning were fresh and have had any calls; their stem widths
+  -- may differ. Where their books hold one contour, it is the same on both.
+  abbrev pub ContoursAlone : Sheet R → Type 0
+  ContoursAlone fresh =
+      (fresh' : Sheet Q) → Fresh flat' fresh' → fresh.settings.units ≡ fresh'.settings.units → SameMeaning (flat fresh.rule) (flat' fresh'.rule)
+      → (qs rs : List Call) (as' bs : List Answer) (s : Sheet R) (t : Sheet Q) → Run flat fresh qs as' s → Run flat' fresh' rs bs t
+      → (k l : ℕ) → k < length (book_after [] qs) → l < length (book_after [] rs) → slice_index_or (book_after [] qs) k [] ≡ slice_index_or (book_after [] rs) l []
+      → SameAlone (book_after [] qs) (book_after [] rs) k l s t

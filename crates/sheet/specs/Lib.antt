@@ -1,6 +1,4 @@
-pub mod Faults
-pub mod Tilings
-pub mod Placing
-pub mod Books
-pub mod Readings
+pub mod Book
+pub mod Sheets
+pub mod Laws
 pub mod Alone

@@ -1,11 +1,10 @@
-// From a source of points to an outline's contours, records and segments.
+// A sheet: one glyph while it is edited, with the records and readings of what it holds now.
 #![tactic(auto)]
 
-mod drawings;
-mod faults;
-mod outlines;
+mod laws;
+mod rooms;
+mod sheets;
 
-pub use drawings::Drawing;
-pub use faults::EditFault;
-pub use outlines::Outline;
-pub use outlines::reading::ReadFault;
+pub use laws::laws_stand;
+pub use rooms::SheetRoom;
+pub use sheets::Sheet;

@@ -1,9 +1,7 @@
 // A line for each value: what was drawn, each point's record, each segment as it was built, and what
 // linking made of it.
-use crate::words::{
-    IndexWord, dimension_word, direction_word, kind_word, mark_word, orientation_words,
-};
-use outline::{Direction, Orientation, Point};
+use crate::words::{OrDash, kind_word, orientation_word};
+use outline::{Direction, Orientation, Point, area_word};
 use segments::{Dimension, Segment};
 use std::fmt;
 
@@ -16,36 +14,28 @@ pub struct SheetLine {
 
 impl fmt::Display for SheetLine {
     fn fmt<W: fmt::Write>(&self, f: &mut fmt::Formatter<W>) -> fmt::Result {
-        let points = self.points;
-        let contours = self.contours;
-        let (name, sign) = orientation_words(self.orientation);
-        write!(
-            f,
-            "sheet points {points} contours {contours} orientation {name} area {sign}"
-        )
+        write!(f, "sheet points {} contours {}", self.points, self.contours)?;
+        let name = orientation_word(self.orientation);
+        let sign = area_word(self.orientation);
+        write!(f, " orientation {name} area {sign}")
     }
 }
 
 #[derive(Drop)]
-pub struct PointLine<'a> {
+pub struct PointLine {
     pub index: usize,
-    pub point: &'a Point,
+    pub point: Point,
 }
 
-impl fmt::Display for PointLine<'_> {
+impl fmt::Display for PointLine {
     fn fmt<W: fmt::Write>(&self, f: &mut fmt::Formatter<W>) -> fmt::Result {
-        let index = self.index;
-        let x = self.point.x;
-        let y = self.point.y;
-        let kind = kind_word(self.point.flags.kind);
-        let near = mark_word("N", self.point.flags.near);
-        let weak = mark_word("W", self.point.flags.weak_interpolation);
-        write!(f, "P {index} {x} {y} {kind} {near}{weak}")?;
-        let in_dir = direction_word(self.point.in_dir);
-        let out_dir = direction_word(self.point.out_dir);
-        let next = self.point.next_ix;
-        let prev = self.point.prev_ix;
-        write!(f, " in {in_dir} out {out_dir} next {next} prev {prev}")
+        let point = &self.point;
+        let kind = kind_word(point.flags.kind);
+        let near = OrDash(point.flags.near.then_some('N'));
+        let weak = OrDash(point.flags.weak_interpolation.then_some('W'));
+        write!(f, "P {} {} {} {kind}", self.index, point.x, point.y)?;
+        write!(f, " {near}{weak} in {} out {}", point.in_dir, point.out_dir)?;
+        write!(f, " next {} prev {}", point.next_ix, point.prev_ix)
     }
 }
 
@@ -59,10 +49,11 @@ pub struct AnswerLine {
 
 impl fmt::Display for AnswerLine {
     fn fmt<W: fmt::Write>(&self, f: &mut fmt::Formatter<W>) -> fmt::Result {
-        let axis = dimension_word(self.dimension);
-        let count = self.count;
-        let major = direction_word(self.major);
-        write!(f, "{axis} answer ok {count} major {major}")
+        write!(
+            f,
+            "{} answer ok {} major {}",
+            self.dimension, self.count, self.major
+        )
     }
 }
 
@@ -75,21 +66,14 @@ pub struct BuiltLine<'a> {
 
 impl fmt::Display for BuiltLine<'_> {
     fn fmt<W: fmt::Write>(&self, f: &mut fmt::Formatter<W>) -> fmt::Result {
-        let axis = dimension_word(self.dimension);
-        let index = self.index;
-        let dir = direction_word(self.segment.dir);
-        let first = self.segment.first;
-        let last = self.segment.last;
-        let pos = self.segment.pos.0;
-        let delta = self.segment.delta;
-        write!(
-            f,
-            "{axis} built {index} {dir} first {first} last {last} pos {pos} delta {delta}"
-        )?;
-        let min = self.segment.min_coord.0;
-        let max = self.segment.max_coord.0;
-        let height = self.segment.height;
-        let round = mark_word("r", self.segment.round);
+        let segment = self.segment;
+        write!(f, "{} built {} {}", self.dimension, self.index, segment.dir)?;
+        write!(f, " first {} last {}", segment.first, segment.last)?;
+        write!(f, " pos {} delta {}", segment.pos.0, segment.delta)?;
+        let min = segment.min_coord.0;
+        let max = segment.max_coord.0;
+        let height = segment.height;
+        let round = OrDash(segment.round.then_some('r'));
         write!(f, " min {min} max {max} height {height} {round}")
     }
 }
@@ -103,14 +87,10 @@ pub struct LinkedLine<'a> {
 
 impl fmt::Display for LinkedLine<'_> {
     fn fmt<W: fmt::Write>(&self, f: &mut fmt::Formatter<W>) -> fmt::Result {
-        let axis = dimension_word(self.dimension);
-        let index = self.index;
-        let score = self.segment.score;
-        let link = IndexWord(self.segment.link);
-        let serif = IndexWord(self.segment.serif);
-        write!(
-            f,
-            "{axis} linked {index} score {score} link {link} serif {serif}"
-        )
+        let segment = self.segment;
+        write!(f, "{} linked {}", self.dimension, self.index)?;
+        let link = OrDash(segment.link);
+        let serif = OrDash(segment.serif);
+        write!(f, " score {} link {link} serif {serif}", segment.score)
     }
 }

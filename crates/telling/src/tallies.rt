@@ -1,15 +1,17 @@
 // Stored texts compared with the library's own, and what came of it.
 ghost use Rattle.std.specs.Prelude.{◌≡◌, ◌+◌, ◌-◌, ◌^◌, min, string_bytes, OnOk};
 
+use itertools::Itertools;
 use std::alloc::Global;
 use std::io;
 
 // Differing lines are shown up to this many.
 const MOST_SHOWN: u64 = 20;
 
-// The lines that differ: how many, and the text of the first of them.
+// The lines that differ: how many, and the text of the first of them, which calls what is compared by a noun.
 #[derive(Drop)]
 struct Differing {
+    noun: &'static str,
     lines: u64,
     text: String,
 }
@@ -18,9 +20,10 @@ impl Differing {
     fn show(&mut self, place: u64, expected: &str, own: &str) -> io::Result<()> {
         self.lines = self.lines.saturating_add(1);
         if self.lines <= MOST_SHOWN {
+            let noun = self.noun;
             writeln!(
                 self.text,
-                "text {place}: expected {expected:?}, own {own:?}"
+                "{noun} {place}: expected {expected:?}, own {own:?}"
             )?;
         }
         Ok(())
@@ -28,15 +31,11 @@ impl Differing {
 
     // A line that one text lacks is held to the empty line.
     fn show_texts(&mut self, place: u64, expected: &str, own: &str) -> io::Result<()> {
-        let mut own_lines = own.lines();
-        for line in expected.lines() {
-            let own_line = own_lines.next().unwrap_or("");
+        for pair in expected.lines().zip_longest(own.lines()) {
+            let (line, own_line) = pair.or_default();
             if line != own_line {
                 self.show(place, line, own_line)?;
             }
-        }
-        for own_line in own_lines {
-            self.show(place, "", own_line)?;
         }
         Ok(())
     }
@@ -51,13 +50,15 @@ pub struct Tally {
 }
 
 impl Tally {
-    pub fn new(heap: Global) -> Tally
+    // Lines that differ are shown with a noun for what is compared, as `text`, and its number.
+    pub fn new(heap: Global, noun: &'static str) -> Tally
         ensures { result.differences ≡ 0 }
     {
         Tally {
             compared: 0,
             differences: 0,
             differing: Differing {
+                noun,
                 lines: 0,
                 text: String::new(heap),
             },

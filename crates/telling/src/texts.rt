@@ -1,97 +1,106 @@
 // The text of a sheet: every value that it holds, and every value that is read from it.
+ghost use Rattle.std.specs.Iterator.{IsFinite};
+
 use crate::lines::{AnswerLine, BuiltLine, LinkedLine, PointLine, SheetLine};
-use crate::words::dimension_word;
-use editing::Sheet;
 use outline::{CornerRule, Point};
 use reading::ReadFault;
-use segments::{Dimension, Segment, TABLE_LEN, major_direction};
+use segments::{Dimension, Segment, TABLE_LEN};
+use sheet::Sheet;
 use std::alloc::{AllocError, Global};
-use std::io;
+use std::{fmt, io};
 
 // The line of the point at an index, without its end.
 pub fn point_text(heap: Global, index: usize, point: &Point) -> Result<String, AllocError> {
-    PointLine { index, point }.to_string(heap)
+    PointLine {
+        index,
+        point: *point,
+    }
+    .to_string(heap)
+}
+
+fn push_lines<L: fmt::Display + Drop, I: Iterator<Item = L> + Drop>(
+    out: &mut String,
+    lines: I,
+) -> io::Result<()>
+    requires can { I.can_next lines }
+    requires ends { IsFinite (I.remaining lines) }
+{
+    for line in lines {
+        out.writeln(line)?;
+    }
+    Ok(())
 }
 
 fn push_points<R: CornerRule>(out: &mut String, sheet: &Sheet<R>) -> io::Result<()> {
-    for index in 0..sheet.point_count() {
-        if let Some(point) = sheet.point(index) {
-            out.writeln(PointLine {
-                index,
-                point: &point,
-            })?;
-        }
-    }
-    Ok(())
+    let points = sheet.points().iter().enumerate();
+    push_lines(
+        out,
+        points.map(|(index, point)| PointLine {
+            index,
+            point: *point,
+        }),
+    )
 }
 
-fn push_built(
-    out: &mut String,
-    dimension: Dimension,
-    table: &[Segment],
-    count: usize,
-) -> io::Result<()> {
-    for (index, segment) in table.iter().take(count).enumerate() {
-        out.writeln(BuiltLine {
+// The segments of an axis as they were built.
+fn push_built(out: &mut String, dimension: Dimension, segments: &[Segment]) -> io::Result<()> {
+    push_lines(
+        out,
+        segments.iter().enumerate().map(|(index, segment)| BuiltLine {
             dimension,
             index,
             segment,
-        })?;
-    }
-    Ok(())
+        }),
+    )
 }
 
-fn push_linked(
-    out: &mut String,
-    dimension: Dimension,
-    table: &[Segment],
-    count: usize,
-) -> io::Result<()> {
-    for (index, segment) in table.iter().take(count).enumerate() {
-        out.writeln(LinkedLine {
+// What linking made of them.
+fn push_linked(out: &mut String, dimension: Dimension, segments: &[Segment]) -> io::Result<()> {
+    push_lines(
+        out,
+        segments.iter().enumerate().map(|(index, segment)| LinkedLine {
             dimension,
             index,
             segment,
-        })?;
-    }
-    Ok(())
+        }),
+    )
 }
 
-// The first entries of a table: the segments as they were built, and then what linking made of them.
+// The segments of an axis as they were built, and then what linking made of them.
 pub fn push_segments(
     out: &mut String,
     dimension: Dimension,
-    table: &[Segment],
-    count: usize,
+    segments: &[Segment],
 ) -> io::Result<()> {
-    push_built(out, dimension, table, count)?;
-    push_linked(out, dimension, table, count)
+    push_built(out, dimension, segments)?;
+    push_linked(out, dimension, segments)
 }
 
 fn push_unread(out: &mut String, dimension: Dimension, fault: ReadFault) -> io::Result<()> {
-    let axis = dimension_word(dimension);
-    let number = fault.number();
-    writeln!(out, "{axis} answer {number}")?;
+    writeln!(out, "{dimension} answer {}", fault.number())?;
     Ok(())
 }
 
-// What a reading of an axis answers, and the segments that it finds.
+// What an axis answers, its segments as they are built, and then as a reading links them.
 fn push_axis<R: CornerRule>(
     out: &mut String,
     sheet: &Sheet<R>,
     dimension: Dimension,
     table: &mut [Segment],
 ) -> io::Result<()> {
-    match sheet.read(dimension, table) {
+    match sheet.build(dimension, table) {
         Ok(count) => {
-            let major = major_direction(dimension, sheet.orientation());
             out.writeln(AnswerLine {
                 dimension,
                 count,
-                major,
+                major: sheet.major_direction(dimension),
             })?;
-            push_segments(out, dimension, table, count)
+            push_built(out, dimension, &table[..count])?;
         }
+        Err(fault) => return push_unread(out, dimension, fault),
+    }
+    match sheet.read(dimension, table) {
+        Ok(count) => push_linked(out, dimension, &table[..count]),
         Err(fault) => push_unread(out, dimension, fault),
     }
 }

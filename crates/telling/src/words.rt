@@ -1,31 +1,13 @@
 // The words in which values are told.
-use outline::{Direction, Orientation, PointKind};
-use segments::Dimension;
+use outline::{Orientation, PointKind};
 use std::fmt;
 
-pub fn direction_word(direction: Direction) -> &'static str {
-    match direction {
-        Direction::None => "none",
-        Direction::Right => "right",
-        Direction::Left => "left",
-        Direction::Up => "up",
-        Direction::Down => "down",
-    }
-}
-
-pub fn dimension_word(dimension: Dimension) -> &'static str {
-    match dimension {
-        Dimension::Horizontal => "H",
-        Dimension::Vertical => "V",
-    }
-}
-
-// The name of an orientation, and the sign of the area that gives it.
-pub fn orientation_words(orientation: Option<Orientation>) -> (&'static str, &'static str) {
+// A `match` here and below: these words are this text's alone, and Display would be taken for the type's own.
+pub fn orientation_word(orientation: Option<Orientation>) -> &'static str {
     match orientation {
-        Some(Orientation::CounterClockwise) => ("CounterClockwise", "+"),
-        Some(Orientation::Clockwise) => ("Clockwise", "-"),
-        None => ("None", "0"),
+        Some(Orientation::CounterClockwise) => "CounterClockwise",
+        Some(Orientation::Clockwise) => "Clockwise",
+        None => "None",
     }
 }
 
@@ -36,19 +18,14 @@ pub fn kind_word(kind: PointKind) -> &'static str {
     }
 }
 
-// The letter of a mark that is set.
-pub fn mark_word(letter: &'static str, set: bool) -> &'static str {
-    if set { letter } else { "-" }
-}
-
-// An index, or a dash where there is none.
+// A value, or a dash where there is none.
 #[derive(Drop)]
-pub struct IndexWord(pub Option<u16>);
+pub struct OrDash<T>(pub Option<T>);
 
-impl fmt::Display for IndexWord {
+impl<T: fmt::Display> fmt::Display for OrDash<T> {
     fn fmt<W: fmt::Write>(&self, f: &mut fmt::Formatter<W>) -> fmt::Result {
-        match self.0 {
-            Some(index) => write!(f, "{index}"),
+        match &self.0 {
+            Some(value) => write!(f, "{value}"),
             None => write!(f, "-"),
         }
     }

@@ -2,15 +2,15 @@
 ghost use Rattle.std.specs.Prelude.{◌≡◌};
 ghost use Rattle.unscaled.specs.Faults.{number, origin, raised};
 
-#[derive(Clone, Copy)]
+#[derive(Debug, Clone, Copy, PartialEq, Eq)]
 pub enum FaultReason {
-    PastCount,
-    MovedOut,
-    UnknownKind,
+    PastCount = 7,
+    MovedOut = 8,
+    UnknownKind = 9,
 }
 
 // Why, at which entry, and how many placements stand above the fault's origin (255 for any more).
-#[derive(Clone, Copy)]
+#[derive(Debug, Clone, Copy, PartialEq, Eq)]
 pub struct SourceFault {
     pub reason: FaultReason,
     pub index: usize,
@@ -34,9 +34,8 @@ impl SourceFault {
         ensures { result ≡ raised self }
     {
         SourceFault {
-            reason: self.reason,
-            index: self.index,
             placements: self.placements.saturating_add(1),
+            ..self
         }
     }
 
@@ -44,10 +43,6 @@ impl SourceFault {
     pub fn number(&self) -> u8
         ensures { result ≡ number self.now.reason }
     {
-        match self.reason {
-            FaultReason::PastCount => 7,
-            FaultReason::MovedOut => 8,
-            FaultReason::UnknownKind => 9,
-        }
+        self.reason as u8
     }
 }

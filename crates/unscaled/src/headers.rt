@@ -1,26 +1,38 @@
 // The header of a drawing record.
 ghost use Rattle.std.specs.Prelude.{◌≡◌, if◌then◌else◌, Ok, Err, nat_lt};
+ghost use Rattle.unscaled.specs.Corners.{flat_of};
 ghost use Rattle.unscaled.specs.Faults.{record_number};
-ghost use Rattle.unscaled.specs.declared.headers.RecordFault.TheVariants.{Settings as OfSettings};
+ghost use Rattle.unscaled.specs.declared.headers.RecordFault.TheVariants.{Settings as OfSettings, UnknownCorner};
 ghost use Rattle.unscaled.specs.Records.{corner_of, header, told};
 
 use crate::records::POINT_BYTES;
-use outline::{Settings, SettingsFault};
+use outline::{Aot, CornerRule, Jit, Settings, SettingsFault};
 
 const VERSION: u8 = 1;
 
 // What stands before the bytes that the length counts: the version, and the length itself.
 const UNCOUNTED: usize = 3;
 
-// The corner rule that a record asks for.
-#[derive(Clone, Copy)]
+// The corner rule that a record asks for, and itself a rule.
+#[derive(Debug, Clone, Copy, PartialEq, Eq)]
 pub enum CornerCode {
     Jit,
     Aot,
 }
 
+impl CornerRule for CornerCode {
+    ghost flat = { flat_of };
+
+    fn is_flat(&self, in_x: i32, in_y: i32, out_x: i32, out_y: i32) -> bool {
+        match self {
+            CornerCode::Jit => Jit.is_flat(in_x, in_y, out_x, out_y),
+            CornerCode::Aot => Aot.is_flat(in_x, in_y, out_x, out_y),
+        }
+    }
+}
+
 // Why bytes are no drawing record.
-#[derive(Clone, Copy)]
+#[derive(Debug, Clone, Copy, PartialEq, Eq)]
 pub enum RecordFault {
     TooShort,
     UnknownVersion,
@@ -35,6 +47,7 @@ impl RecordFault {
     pub fn number(&self) -> u8
         ensures { result ≡ record_number self.now }
     {
+        // By a match: two refusals share 5, and one has the number of what it holds.
         match self {
             RecordFault::TooShort => 3,
             RecordFault::UnknownVersion => 4,
@@ -61,13 +74,17 @@ pub struct Header {
     pub corner: CornerCode,
 }
 
-fn corner_of(code: u8) -> Result<CornerCode, RecordFault>
-    ensures { result ≡ (if nat_lt 1 code then Err RecordFault.UnknownCorner else Ok (corner_of code)) }
-{
-    match code {
-        0 => Ok(CornerCode::Jit),
-        1 => Ok(CornerCode::Aot),
-        _ => Err(RecordFault::UnknownCorner),
+impl TryFrom<u8> for CornerCode {
+    type Error = RecordFault;
+
+    ghost try_from_gives = { λ code r. r ≡ (if nat_lt 1 code then Err UnknownCorner else Ok (corner_of code)) };
+
+    fn try_from(code: u8) -> Result<CornerCode, RecordFault> {
+        match code {
+            0 => Ok(CornerCode::Jit),
+            1 => Ok(CornerCode::Aot),
+            _ => Err(RecordFault::UnknownCorner),
+        }
     }
 }
 
@@ -88,7 +105,7 @@ impl Header {
         if points.len() % POINT_BYTES != 0 {
             return Err(RecordFault::PartialPoint);
         }
-        let corner = corner_of(*code)?;
+        let corner = CornerCode::try_from(*code)?;
         let units = u16::from_be_bytes([*uh, *ul]);
         let width = u16::from_be_bytes([*wh, *wl]);
         let settings = Settings::new(units, width)?;

@@ -1,15 +1,12 @@
 // A source moved as a whole.
 ghost use Rattle.std.specs.Prelude.{◌≡◌, ◌+ℤ◌, if◌then◌else◌, Some, None, Ok};
-ghost use Rattle.std.specs.Result.{result_map_both};
-ghost use Rattle.unscaled.specs.Faults.{one_more, raised};
+ghost use Rattle.unscaled.specs.Faults.{one_more};
 ghost use Rattle.unscaled.specs.Placements.{in_range, moved, placed_list};
 
 use crate::faults::{FaultReason, SourceFault};
 use crate::points::UnscaledPoint;
 use crate::sources::Source;
-
-// How far from 0 a moved point may lie.
-const LIMIT: u64 = 16383;
+use outline::LIMIT;
 
 // The source below, each of its points moved by `dx` and `dy`.
 #[derive(Drop)]
@@ -24,7 +21,7 @@ fn shifted(from: i32, by: i32) -> Option<i32>
     ensures { result ≡ (if in_range (from +ℤ by) then Some (from +ℤ by) else None) }
 {
     let sum = from as i64 + by as i64;
-    if sum.unsigned_abs() <= LIMIT {
+    if sum.unsigned_abs() <= LIMIT as u64 {
         Some(sum as i32)
     } else {
         None
@@ -41,23 +38,8 @@ fn move_point(
     ensures { result ≡ moved dx dy index (Ok point) }
 {
     match (shifted(point.x, dx), shifted(point.y, dy)) {
-        (Some(x), Some(y)) => Ok(UnscaledPoint {
-            x,
-            y,
-            kind: point.kind,
-            is_contour_start: point.is_contour_start,
-        }),
+        (Some(x), Some(y)) => Ok(UnscaledPoint { x, y, ..point }),
         _ => Err(SourceFault::new(FaultReason::MovedOut, index)),
-    }
-}
-
-// What a placement passes on of an entry below: a point, or a fault that stands under one placement more.
-fn pass_on(entry: Result<UnscaledPoint, SourceFault>) -> Result<UnscaledPoint, SourceFault>
-    ensures { result ≡ result_map_both (λ p. p) raised entry }
-{
-    match entry {
-        Ok(point) => Ok(point),
-        Err(fault) => Err(fault.raise()),
     }
 }
 
@@ -66,12 +48,13 @@ impl<S: Source> Source for Placement<S> {
 
     ghost placed = { λ p. one_more (S.Source.placed p.below) };
 
+    #[tactic(auto, using(crate::proofs::Moves::length_mapped))]
     fn count(&self) -> usize {
         self.below.count()
     }
 
     fn entry(&self, index: usize) -> Result<UnscaledPoint, SourceFault> {
-        let point = pass_on(self.below.entry(index))?;
+        let point = self.below.entry(index).map_err(SourceFault::raise)?;
         move_point(point, self.dx, self.dy, index)
     }
 }

@@ -1,7 +1,7 @@
 // A point of a drawing, in font units.
 use outline::PointKind;
 
-#[derive(Clone, Copy)]
+#[derive(Debug, Clone, Copy, PartialEq, Eq)]
 pub struct UnscaledPoint {
     pub x: i32,
     pub y: i32,

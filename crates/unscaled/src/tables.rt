@@ -29,9 +29,7 @@ impl Source for PointTable<'_> {
     }
 
     fn entry(&self, index: usize) -> Result<UnscaledPoint, SourceFault> {
-        match self.points.get(index) {
-            Some(point) => Ok(*point),
-            None => Err(SourceFault::new(FaultReason::PastCount, index)),
-        }
+        let past = SourceFault::new(FaultReason::PastCount, index);
+        self.points.get(index).copied().ok_or(past)
     }
 }

@@ -10,6 +10,7 @@ use crate::starts::find_start;
 use outline::{DrawnPoint, Settings};
 
 // Finds the directions, the weak points and the chain of ends of a contour; `legs` is working room.
+// Room and marks are lent apart: a struct of both would set a limit to the points, and this has none.
 pub fn compute_directions(
     settings: &Settings,
     points: &[DrawnPoint],
@@ -21,9 +22,8 @@ pub fn compute_directions(
     ensures round { WalkedRound (near_limit settings.now.units) points.now marks.new }
     ensures vectors { SumsAreVectors points.now }
 {
-    let near_limit = settings.near_limit();
-    let start = find_start(points, near_limit);
-    cut_steps(points, start, near_limit, legs);
+    let start = find_start(settings, points);
+    cut_steps(settings, points, start, legs);
     spread_directions(legs);
     deal_legs(legs, start, marks);
 }

@@ -1,33 +1,20 @@
 // The working marks of a contour's points.
 ghost use Rattle.std.specs.Prelude.{◌≡◌, ◌<◌, length};
-ghost use Rattle.walk.specs.Marks.{blank, join, stepped, last_end, dealt, dealt_all};
+ghost use Rattle.walk.specs.Marks.{join, stepped, last_end, dealt, dealt_all};
 
 use crate::legs::Leg;
 use crate::steps::next_of;
 use outline::Direction;
 
-// What the analysis finds of a point; u and v are the indices of the next and the previous end.
-#[derive(Clone, Copy)]
+// What the analysis finds of a point; u and v are the indices of the next and the previous end, which a point
+// that turns weak keeps. Indices and no boxes, since the analysis takes no memory.
+#[derive(Clone, Copy, Default)]
 pub struct Mark {
     pub weak: bool,
     pub in_dir: Direction,
     pub out_dir: Direction,
     pub u: usize,
     pub v: usize,
-}
-
-impl Mark {
-    pub fn blank() -> Mark
-        ensures { result ≡ blank }
-    {
-        Mark {
-            weak: false,
-            in_dir: Direction::None,
-            out_dir: Direction::None,
-            u: 0,
-            v: 0,
-        }
-    }
 }
 
 // Point `a` takes `b` as its u, and point `b` takes `a` as its v.
@@ -77,6 +64,7 @@ pub fn deal_legs(legs: &[Leg], start: usize, marks: &mut [Mark])
     ensures { marks.new ≡ dealt_all (length marks.old) start start start legs.now marks.old }
 {
     let n = marks.len();
+    // goes round beside the legs, as when they were made
     let mut at = start;
     let mut last = start;
     for leg in legs {

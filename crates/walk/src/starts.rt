@@ -1,41 +1,28 @@
 // Where the walk round a contour starts.
 ghost use Rattle.std.specs.Prelude.{◌≡◌, ◌^◌, ◌<◌, ◌≤◌, length};
-ghost use Rattle.walk.specs.Starts.{goes_back, wrap, start_of};
+ghost use Rattle.outline.specs.Units.{near_limit};
+ghost use Rattle.walk.specs.Starts.{is_short, start_of};
 
-use crate::steps::step_at;
-use outline::DrawnPoint;
+use crate::steps::{next_of, step_at};
+use outline::{DrawnPoint, Settings};
 
-// Whether the start moves back to the point `prev`: never to the first point, and only by a short step.
-fn goes_back(points: &[DrawnPoint], near_limit: u32, prev: usize) -> bool
-    requires { (prev < length points.now) × (near_limit ≤ 2 ^ 16) }
-    ensures { result ≡ goes_back near_limit points.now prev }
+// Whether the walk steps back over the step that leaves point `i`: |dx| + |dy| < 2 N - 1, where N may be 0.
+fn is_short(points: &[DrawnPoint], near_limit: u32, i: usize) -> bool
+    requires { (i < length points.now) × (near_limit ≤ 2 ^ 16) }
+    ensures { result ≡ is_short near_limit points.now i }
 {
-    if prev > 0 {
-        // |dx| + |dy| < 2 N - 1, where N may be 0
-        step_at(points, prev).taxicab_length() + 1 < 2 * near_limit
-    } else {
-        false
-    }
+    step_at(points, i).taxicab_length() + 1 < 2 * near_limit
 }
 
-// The count of the points stands for the first point.
-fn wrapped(n: usize, i: usize) -> usize
-    requires { 0 < n }
-    ensures value { result ≡ wrap n i }
-    ensures bound { result < n }
-{
-    if i < n { i } else { 0 }
-}
-
-// Steps back from the first point while the steps are short.
-pub fn find_start(points: &[DrawnPoint], near_limit: u32) -> usize
-    requires { (0 < length points.now) × (near_limit ≤ 2 ^ 16) }
-    ensures value { result ≡ start_of near_limit points.now }
+// Steps back from the first point while the steps are short, but never on to the first point again.
+pub fn find_start(settings: &Settings, points: &[DrawnPoint]) -> usize
+    requires { 0 < length points.now }
+    ensures value { result ≡ start_of (near_limit settings.now.units) points.now }
     ensures bound { result < length points.now }
 {
-    let mut at = points.len();
-    while goes_back(points, near_limit, at - 1) {
-        at -= 1;
-    }
-    wrapped(points.len(), at)
+    let near_limit = settings.near_limit();
+    let before = (1..points.len())
+        .rfind(|i| !is_short(points, near_limit, *i))
+        .unwrap_or(0);
+    next_of(points.len(), before)
 }

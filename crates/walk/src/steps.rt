@@ -5,7 +5,7 @@ ghost use Rattle.walk.specs.Steps.{following, step_of, leaving, plus, taxicab};
 use outline::DrawnPoint;
 
 // From one point to another.
-#[derive(Clone, Copy)]
+#[derive(Clone, Copy, Default)]
 pub struct Step {
     pub dx: i32,
     pub dy: i32,
@@ -20,40 +20,26 @@ pub fn next_of(n: usize, i: usize) -> usize
     if i + 1 < n { i + 1 } else { 0 }
 }
 
-fn difference(a: i16, b: i16) -> i32
-    ensures value { result ≡ a -ℤ b }
-    ensures bound { unsigned_abs result ≤ 65535 }
-{
-    a as i32 - b as i32
-}
-
-fn total(a: i32, b: i32) -> i32
-    requires { (unsigned_abs a ≤ 2 ^ 16) × (unsigned_abs b ≤ 2 ^ 16) }
-    ensures value { result ≡ a +ℤ b }
-    ensures bound { unsigned_abs result ≤ 2 ^ 17 }
-{
-    a + b
-}
-
 impl Step {
     pub fn between(p: DrawnPoint, q: DrawnPoint) -> Step
         ensures value { result ≡ step_of p q }
         ensures bound { (unsigned_abs result.dx ≤ 65535) × (unsigned_abs result.dy ≤ 65535) }
     {
         Step {
-            dx: difference(q.x, p.x),
-            dy: difference(q.y, p.y),
+            dx: i32::from(q.x) - i32::from(p.x),
+            dy: i32::from(q.y) - i32::from(p.y),
         }
     }
 
+    // no operator, which would ask its bounds of every caller
     pub(crate) fn add(self, step: Step) -> Step
         requires { (taxicab self ≤ 2 ^ 16) × ((unsigned_abs step.dx ≤ 2 ^ 16) × (unsigned_abs step.dy ≤ 2 ^ 16)) }
         ensures value { result ≡ plus self step }
         ensures bound { taxicab result ≤ 2 ^ 18 }
     {
         Step {
-            dx: total(self.dx, step.dx),
-            dy: total(self.dy, step.dy),
+            dx: self.dx + step.dx,
+            dy: self.dy + step.dy,
         }
     }
 

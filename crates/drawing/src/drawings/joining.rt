@@ -41,6 +41,7 @@ impl Drawing {
         requires contours { length (book self.old) + (to - from) ≤ 128 }
         ensures { book self.new ≡ book self.old ++ between from to (book other.now) }
     {
+        // by index, as `contour_points` takes one: over a slice of contours, each would be cut out here again
         for k in from..to {
             self.append_one(other, k);
         }

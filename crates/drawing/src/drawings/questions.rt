@@ -56,10 +56,7 @@ impl Drawing {
         requires { k < length (book self.now) }
         ensures { result.now ≡ slice_index_or (book self.now) k [] }
     {
-        let contour = self.contour(k);
-        let first = contour.first;
-        let end = contour.end;
-        &self.points.as_slice()[first..end]
+        self.contour(k).slice(self.points())
     }
 
     // The way round that the contours are drawn.
@@ -69,7 +66,7 @@ impl Drawing {
         compute_orientation(self.points(), self.contours())
     }
 
-    // Writes the records of the points; `legs` and `marks` are working room.
+    // Writes the records of the points; `legs` and `marks` are lent room.
     pub fn analyze<R: CornerRule>(
         &self,
         rule: &R,
@@ -78,19 +75,18 @@ impl Drawing {
         marks: &mut [Mark],
         out: &mut [Point],
     )
-        requires legs { 2048 ≤ length legs.old }
-        requires marks { 2048 ≤ length marks.old }
+        requires legs { point_count (book self.now) ≤ length legs.old }
+        requires marks { point_count (book self.now) ≤ length marks.old }
         requires out { length out.old ≡ point_count (book self.now) }
         ensures { out.new ≡ outline_records (R.CornerRule.flat rule.now) (near_limit settings.now.units) 0 (book self.now) }
     {
-        let count = self.point_count();
         analyze_outline(
             rule,
             settings,
             self.points(),
             self.contours(),
-            &mut legs[..count],
-            &mut marks[..count],
+            legs,
+            marks,
             out,
         );
     }

@@ -5,26 +5,23 @@ ghost use Rattle.unscaled.specs.Placements.{in_range};
 ghost use Rattle.drawing.specs.Books.{book};
 ghost use Rattle.drawing.specs.Placing.{admitted, lengthened, extended, entered, drawn_from, placed, with_contours};
 ghost use Rattle.drawing.specs.Ranges.{is_inside};
+ghost use Rattle.drawing.specs.declared.faults.EditFault.TheVariants.{TooManyContours};
 
 use super::Drawing;
 use crate::faults::EditFault;
-use outline::{Contour, DrawnPoint};
+use crate::limits::ContourLimit;
+use outline::{Contour, DrawnPoint, LIMIT, MOST_CONTOURS, MOST_POINTS};
 use std::alloc::{AllocError, Global};
 use unscaled::{Source, UnscaledPoint};
 
-const LIMIT: i32 = 16383;
-
-const MOST_POINTS: usize = 2048;
-
-const MOST_CONTOURS: usize = 128;
-
+// As a placement's test, which is of a wider sum.
 fn is_within(c: i32) -> bool
     ensures { result ≡ in_range c }
 {
     -LIMIT <= c && c <= LIMIT
 }
 
-// The point as a sheet holds it.
+// The point as a sheet holds it. No TryFrom: both types are other crates'.
 pub fn admit(point: UnscaledPoint) -> Result<DrawnPoint, EditFault>
     ensures value { result ≡ admitted point }
     ensures inside { IfOk result (λ q. is_inside q ≡ true) }
@@ -44,13 +41,6 @@ fn is_first(opens: bool, held: usize) -> bool
     ensures { result ≡ (opens || held == 0) }
 {
     opens || held == 0
-}
-
-// Whether no further contour may open.
-fn is_full(held: usize, most: usize) -> bool
-    ensures { result ≡ nat_le most held }
-{
-    held >= most
 }
 
 // Whether `count` points more are too many beside those that are held.
@@ -80,6 +70,7 @@ impl Drawing {
         self.contours.clear();
     }
 
+    // `is_inside` and the room stay clauses of these calls: a type of points within the range would narrow what is analysed.
     fn open_contour(&mut self, point: DrawnPoint)
         requires points { vec_len self.old.points < 2048 }
         requires contours { vec_len self.old.contours < 128 }
@@ -116,24 +107,22 @@ impl Drawing {
         &mut self,
         point: DrawnPoint,
         opens: bool,
-        most: usize,
-        beyond: EditFault,
+        limit: ContourLimit,
     ) -> Result<(), EditFault>
         requires room { vec_len self.old.points < 2048 }
-        requires most { most ≤ 128 }
-        requires few { vec_len self.old.contours ≤ most }
+        requires few { vec_len self.old.contours ≤ limit.most }
         requires inside { is_inside point ≡ true }
-        ensures book { with_contours result (book self.new) ≡ extended most beyond (book self.old) opens point }
+        ensures book { with_contours result (book self.new) ≡ extended limit.most limit.beyond (book self.old) opens point }
         ensures points { is_ok result ≡ true → vec_len self.new.points ≡ vec_len self.old.points + 1 }
-        ensures contours { vec_len self.new.contours ≤ most }
+        ensures contours { vec_len self.new.contours ≤ limit.most }
     {
         let held = self.contours.len();
         if !is_first(opens, held) {
             self.lengthen_contour(point);
             return Ok(());
         }
-        if is_full(held, most) {
-            return Err(beyond);
+        if limit.is_reached(held) {
+            return Err(limit.beyond);
         }
         self.open_contour(point);
         Ok(())
@@ -144,55 +133,46 @@ impl Drawing {
         &mut self,
         source: &S,
         index: usize,
-        most: usize,
-        beyond: EditFault,
+        limit: ContourLimit,
     ) -> Result<(), EditFault>
         requires room { vec_len self.old.points < 2048 }
-        requires most { most ≤ 128 }
-        requires few { vec_len self.old.contours ≤ most }
-        ensures book { with_contours result (book self.new) ≡ entered most beyond (book self.old) (slice_index_or (S.Source.list source.now) index (past_count (S.Source.placed source.now) index)) }
+        requires few { vec_len self.old.contours ≤ limit.most }
+        ensures book { with_contours result (book self.new) ≡ entered limit.most limit.beyond (book self.old) (slice_index_or (S.Source.list source.now) index (past_count (S.Source.placed source.now) index)) }
         ensures points { is_ok result ≡ true → vec_len self.new.points ≡ vec_len self.old.points + 1 }
-        ensures contours { vec_len self.new.contours ≤ most }
+        ensures contours { vec_len self.new.contours ≤ limit.most }
     {
         let point = source.entry(index)?;
         let drawn = admit(point)?;
-        self.add_point(drawn, point.is_contour_start, most, beyond)
+        self.add_point(drawn, point.is_contour_start, limit)
     }
 
     // Takes in all entries of a source, in order, in the place of what was drawn.
-    fn take_all<S: Source>(
-        &mut self,
-        source: &S,
-        most: usize,
-        beyond: EditFault,
-    ) -> Result<(), EditFault>
+    fn take_all<S: Source>(&mut self, source: &S, limit: ContourLimit) -> Result<(), EditFault>
         requires few { length (S.Source.list source.now) ≤ 2048 }
-        requires most { most ≤ 128 }
-        ensures book { with_contours result (book self.new) ≡ drawn_from most beyond [] (S.Source.list source.now) }
+        ensures book { with_contours result (book self.new) ≡ drawn_from limit.most limit.beyond [] (S.Source.list source.now) }
         ensures points { is_ok result ≡ true → vec_len self.new.points ≡ length (S.Source.list source.now) }
-        ensures contours { vec_len self.new.contours ≤ most }
+        ensures contours { vec_len self.new.contours ≤ limit.most }
     {
         self.clear();
+        // by index: a source tells one entry at a time, and lends no list to go over
         for i in 0..source.count() {
-            self.take_entry(source, i, most, beyond)?;
+            self.take_entry(source, i, limit)?;
         }
         Ok(())
     }
 
-    // Draws a source's contours in the place of what was drawn: at most `most` of them, `beyond` refusing
-    // another, and at most 2,048 points with the `held` ones of a sheet. Refused, the drawing is of no use.
+    // Draws a source's contours in the place of what was drawn: as many as the limit lets it, and at most 2,048 points
+    // with the `held` ones of a sheet. Refused, the drawing is of no use.
     pub fn take<S: Source>(
         &mut self,
         source: &S,
         held: usize,
-        most: usize,
-        beyond: EditFault,
+        limit: ContourLimit,
     ) -> Result<(), EditFault>
         requires held { held ≤ 2048 }
-        requires most { most ≤ 128 }
-        ensures book { with_contours result (book self.new) ≡ placed held most beyond (S.Source.list source.now) }
+        ensures book { with_contours result (book self.new) ≡ placed held limit.most limit.beyond (S.Source.list source.now) }
         ensures points { is_ok result ≡ true → held + vec_len self.new.points ≤ 2048 }
-        ensures contours { is_ok result ≡ true → vec_len self.new.contours ≤ most }
+        ensures contours { is_ok result ≡ true → vec_len self.new.contours ≤ limit.most }
     {
         let count = source.count();
         if count == 0 {
@@ -201,6 +181,18 @@ impl Drawing {
         if is_too_many(held, count) {
             return Err(EditFault::TooManyPoints);
         }
-        self.take_all(source, most, beyond)
+        self.take_all(source, limit)
+    }
+
+    // Draws a source's contours in the place of what was drawn, as on an empty sheet; refused, it leaves an empty drawing.
+    pub fn draw<S: Source>(&mut self, source: &S) -> Result<(), EditFault>
+        ensures book { with_contours result (book self.new) ≡ placed 0 128 TooManyContours (S.Source.list source.now) }
+        ensures refused { is_ok result ≡ false → book self.new ≡ [] }
+    {
+        let drawn = self.take(source, 0, ContourLimit::beside(0));
+        if drawn.is_err() {
+            self.clear();
+        }
+        drawn
     }
 }

@@ -11,10 +11,10 @@ const MOST_UNITS: u16 = 16384;
 const MOST_WIDTH: u16 = 16383;
 
 // Why settings are refused.
-#[derive(Clone, Copy, PartialEq, Eq)]
+#[derive(Debug, Clone, Copy, PartialEq, Eq)]
 pub enum SettingsFault {
-    Units,
-    Width,
+    Units = 1,
+    Width = 2,
 }
 
 impl SettingsFault {
@@ -22,10 +22,7 @@ impl SettingsFault {
     pub fn number(self) -> u8
         ensures { result ≡ number self }
     {
-        match self {
-            SettingsFault::Units => 1,
-            SettingsFault::Width => 2,
-        }
+        self as u8
     }
 }
 

@@ -6,11 +6,11 @@ use Rattle.analysis.proofs.outlines.analyze_outline.Goals as goal
 pub loop-contour-init : goal.loop-contour-init
 loop-contour-init g c = written_none _ _ c.args.points.now c.args.contours.now c.args.out.now c.requires.tiles.0
 
-pub analyze_span-requires : goal.analyze_span-requires
-analyze_span-requires g c =
+pub analyze_span-requires-clause-first_lt_end : goal.analyze_span-requires-clause-first_lt_end
+analyze_span-requires-clause-first_lt_end g c =
     let w = c.loop-contour.invariant in
     let t = turn _ c.args.contours.now c.loop-contour.contour-index w.from _ c.loop-contour-test.true w.tiles in
-    (record { first_lt_end = (t.some, (t.fits, omega arith)); legs_len = (omega arith, (omega arith, omega arith)) })
+    (t.some, (t.fits, omega arith))
 
 pub loop-contour-preserved : goal.loop-contour-preserved
 loop-contour-preserved g c =

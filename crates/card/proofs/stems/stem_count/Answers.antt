@@ -1,28 +1,20 @@
-use Rattle.std.proofs.Common.{◌≡◌, ℕ, ◌+◌, length, sym, ap, ◌∙◌, arith}
-use Rattle.card.specs.Stems.{count_below, stem, stem_count, sum_below}
-use Rattle.card.proofs.Halved.{halves}
-use Rattle.card.proofs.Paired.{opens-counts}
-use Rattle.card.proofs.Sums.{one, sum_none, sum_more}
+use Rattle.std.proofs.Common.{◌≡◌, ◌+◌, ℕ, length, ap, ◌∙◌, arith, rules}
+use Rattle.std.proofs.lemmas.Iterator.{YieldsList-from_range}
+use Rattle.std.proofs.lemmas.Iterator.Consumers.{YieldsList-from_filter, count_from_yields_List}
+use Rattle.std.proofs.lemmas.List.Sums.{length-filter}
+use Rattle.card.specs.Stems.{indices, opens, stem_count}
+use Rattle.card.proofs.Paired.{halves, opened}
 use Rattle.card.proofs.stems.stem_count.Goals as goal
-use Rattle.card.proofs.stems.stem_count.Goals.{then-opens_stem, else-opens_stem}
 
-pub loop-i-init : goal.loop-i-init
-loop-i-init c = (sym (sum_none _), omega arith)
-
-pub loop-i-preserved : goal.loop-i-preserved
-loop-i-preserved c =
+counted : (c : goal.After-count) → c.count.result ≡ stem_count c.args.segments.now
+counted c =
     let ss = c.args.segments.now in
-    let m = sum_more c.loop-i.i (λ i. count_below (length ss) (stem ss i)) in
-    let o = opens-counts ss c.loop-i.i in
-    let r = ap one c.opens_stem.ensures in
-    elim c.if-opens_stem.branch [
-      | then-opens_stem w ↦ let b = ap one w.if-opens_stem.true in (omega arith, omega arith)
-      | else-opens_stem w ↦ let b = ap one w.if-opens_stem.false in (omega arith, omega arith)
-    ]
+    count_from_yields_List c.filter.result c.count.result c.count.ensures.ran
+    (YieldsList-from_filter _ (opens ss) (YieldsList-from_range 0 (length ss) (length ss) c.filter.ensures.source (omega arith)) c.filter.ensures.closure (λ i b q k. search rules))
+    ∙ (length-filter (opens ss) (indices ss) ∙ opened ss)
 
-pub returns : goal.returns
-returns c =
-    let ss = c.args.segments.now in
-    let n : c.loop-i.i ≡ length ss = omega arith in
-    let e : c.loop-i.count ≡ stem_count ss = c.loop-i.invariant.0 ∙ ap (λ (n : ℕ). sum_below n (λ i. count_below (length ss) (stem ss i))) n in
-    record { value = e; halves = λ h. ap (λ (n : ℕ). n + n) e ∙ halves ss h; bound = omega arith }
+pub returns-clause-value : goal.returns-clause-value
+returns-clause-value c = counted c
+
+pub returns-clause-halves : goal.returns-clause-halves
+returns-clause-halves c = λ h. ap (λ (n : ℕ). n + n) (counted c) ∙ halves c.args.segments.now h

@@ -1,37 +1,21 @@
-use Rattle.std.proofs.Common.{◌≡◌, ℕ, ◌+◌, None, sym, refl, ap, ◌∙◌, subst, arith}
-use Rattle.linking.specs.Choices.{at, holding}
-use Rattle.linking.specs.Passes.{Shows, stage, entry}
-use Rattle.linking.proofs.Steps.{shows_like, shows_self, shows-through, stage_of, stage_end}
+use Rattle.std.proofs.Common.{◌≡◌, length, subst, arith}
+use Rattle.linking.specs.Choices.{at}
+use Rattle.linking.specs.Passes.{Shows, stage}
+use Rattle.linking.proofs.Steps.{shows_like, starting, ending}
 use Rattle.linking.proofs.choices.choose.Goals as goal
 
-pub pass-requires : goal.pass-requires
-pass-requires c =
-    let xs = c.erase.new.table in
-    let t = c.loop-i.table in
-    let r = c.args.rule.now in
-    let n = c.args.n in
-    let F = stage r (at xs) n c.loop-i.i 0 in
-    (record { shows = subst (λ S. Shows t n S t) (sym (stage_of r xs t n c.loop-i.i 0 F c.loop-i.invariant (λ k h. refl))) (shows_self xs t n F c.loop-i.invariant); i_lt_n = (omega arith, omega arith, omega arith, omega arith) })
+pub loop-i-init : goal.loop-i-init
+loop-i-init c =
+    let xs = c.args.table.now in
+    shows_like (length xs) _ _ c.erase.new.table (λ k l. starting c.args.rule.now (at xs) (length xs) k) c.erase.ensures
 
 pub loop-i-preserved : goal.loop-i-preserved
-loop-i-preserved c =
-    let xs = c.erase.new.table in
-    let t = c.loop-i.table in
-    let r = c.args.rule.now in
-    let n = c.args.n in
-    let F = stage r (at xs) n c.loop-i.i 0 in
-    let G = stage r (at t) n (c.loop-i.i + 1) 0 in
-    subst (λ S. Shows xs n S c.pass.new.table) (stage_of r xs t n (c.loop-i.i + 1) 0 F c.loop-i.invariant (λ k h. refl)) (shows-through xs t c.pass.new.table n F G c.loop-i.invariant c.pass.ensures)
+loop-i-preserved c = c.pass.ensures (length c.args.table.now) (at c.args.table.now) c.loop-i.invariant
 
 pub returns : goal.returns
 returns c =
     let xs = c.args.table.now in
-    let e = c.erase.new.table in
-    let t = c.loop-i.table in
     let r = c.args.rule.now in
-    let n = c.args.n in
-    let F : ℕ → _ = λ k. holding (at xs k) 32000 None None in
-    let G = stage r (at e) n c.loop-i.i 0 in
-    let i : c.loop-i.i ≡ n = omega arith in
-    shows_like xs n (stage r (at xs) n n 0) (entry r (at xs) n) t (λ k h. stage_end r (at xs) n k h)
-    (subst (λ S. Shows xs n S t) (ap (λ m. stage r (at e) n m 0) i ∙ stage_of r xs e n n 0 F c.erase.ensures (λ k h. refl)) (shows-through xs e t n F G c.erase.ensures c.loop-i.invariant))
+    let n = length xs in
+    let e : c.loop-i.i ≡ n = omega (arith, c.erase.ensures.len) in
+    shows_like n _ _ c.loop-i.table (λ k l. ending r (at xs) n k l) (subst (λ i. Shows n (stage r (at xs) n i) c.loop-i.table) e c.loop-i.invariant)

@@ -1,36 +1,36 @@
-use Rattle.std.proofs.Common.{◌≡◌, ◌+◌, false, sym, ap, ◌∙◌, subst, arith}
+use Rattle.std.proofs.Common.{◌≡◌, ◌<◌, true, false, sym, ap, ◌∙◌, subst, arith}
+use Rattle.std.proofs.lemmas.Bool.{not-false, not-true}
 use Rattle.outline.specs.Directions.{same}
-use Rattle.linking.specs.Rules.{pair_score}
+use Rattle.segments.specs.declared.tables.Segment.{Segment}
 use Rattle.linking.specs.Choices.{at}
-use Rattle.linking.specs.Passes.{Shows, stage, exchanged}
-use Rattle.linking.proofs.Steps.{shows_like, shows_step, skip, stage-row}
+use Rattle.linking.proofs.Steps.{shows_like, skip, Met, met_one, met_all}
+use Rattle.outline.proofs.Same.{same_is}
 use Rattle.linking.proofs.choices.pass.Goals as goal
 
--- the two that meet are as at the start but for their scores and links
+pub returns-then-ne : goal.returns-then-ne
+returns-then-ne c =
+    let r = c.args.rule.now in
+    let i = c.args.i in
+    let m : same (at c.args.table.now i).dir r.major ≡ false = sym (same_is _ _) ∙ not-true _ (sym c.ne.ensures ∙ c.if-ne.true) in
+    λ n g h. shows_like n _ _ c.args.table.now (λ k l. skip r g n i k (ap (λ (s : Segment). same s.dir r.major) (sym (h.each i (omega (arith, h.len)))) ∙ m)) h
+
 pub loop-j-preserved : goal.loop-j-preserved
 loop-j-preserved c =
-    let xs = c.args.table.now in
     let r = c.args.rule.now in
-    let t = c.loop-j.table in
     let i = c.args.i in
     let j = c.loop-j.j in
-    let e : c.score-score.result ≡ pair_score r (at xs i) (at xs j) = c.score-score.ensures ∙ ap (pair_score r (at xs i)) (c.loop-j.invariant.front j c.loop-j-test.true) in
-    shows_step r xs t c.meet.new.table c.args.n i j (omega arith) (omega arith) (omega arith) c.loop-j.invariant (c.meet.ensures ∙ ap (exchanged t i j) e)
-
-pub returns-then-not-has_direction : goal.returns-then-not-has_direction
-returns-then-not-has_direction c =
-    let xs = c.args.table.now in
-    let r = c.args.rule.now in
-    let n = c.args.n in
-    let i = c.args.i in
-    let d : same (at xs i).dir r.major ≡ false = sym {b = same (at xs i).dir r.major} c.if-not-has_direction.ensures in
-    shows_like xs n (stage r (at xs) n i 0) (stage r (at xs) n (i + 1) 0) xs (λ k h. skip r (at xs) n i k d) c.requires.shows
+    let m : same (at c.args.table.now i).dir r.major ≡ true = sym (same_is _ _) ∙ not-false _ (sym c.ne.ensures ∙ c.if-ne.false) in
+    λ n g h.
+    let m' : same (g i).dir r.major ≡ true = ap (λ (s : Segment). same s.dir r.major) (sym (h.each i (omega (arith, h.len)))) ∙ m in
+    let l : j < n = omega (arith, h.len) in
+    met_one r g n i j c.loop-j.first _ _ c.loop-j.table m' l (c.loop-j.invariant n g h) c.meet.ensures.first c.meet.ensures.second
 
 pub returns : goal.returns
 returns c =
-    let xs = c.args.table.now in
     let r = c.args.rule.now in
-    let n = c.args.n in
-    let e : c.loop-j.j ≡ n = omega arith in
-    shows_like xs n (stage r (at xs) n c.args.i n) (stage r (at xs) n (c.args.i + 1) 0) c.loop-j.table (λ k h. stage-row r (at xs) n c.args.i k h)
-    (subst (λ j. Shows xs n (stage r (at xs) n c.args.i j) c.loop-j.table) e c.loop-j.invariant)
+    let i = c.args.i in
+    let m : same (at c.args.table.now i).dir r.major ≡ true = sym (same_is _ _) ∙ not-false _ (sym c.ne.ensures ∙ c.if-ne.false) in
+    λ n g h.
+    let m' : same (g i).dir r.major ≡ true = ap (λ (s : Segment). same s.dir r.major) (sym (h.each i (omega (arith, h.len)))) ∙ m in
+    let e : c.loop-j.j ≡ n = omega (arith, h.len) in
+    met_all r g n i c.loop-j.first c.loop-j.table m' (omega (arith, h.len)) (subst (λ j. Met r g n i j c.loop-j.first c.loop-j.table) e (c.loop-j.invariant n g h))

@@ -6,8 +6,8 @@ use Rattle.walk.proofs.ends.compute_directions.Goals as goal
 
 pub returns : goal.returns
 returns c =
-    let v = whole _ _ c.args.points.now c.args.marks.now _ _ _ _ _
-    c.near_limit-near_limit.ensures.value c.find_start-start.ensures.value (omega arith)
+    let v = whole _ c.args.points.now c.args.marks.now _ _ _ _ _
+    c.find_start-start.ensures.value (omega arith)
     c.cut_steps.ensures c.spread_directions.ensures c.deal_legs.ensures in
     record {
       value = v;

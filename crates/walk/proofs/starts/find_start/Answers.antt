@@ -1,15 +1,15 @@
-use Rattle.std.proofs.Common.{◌∙◌, arith}
-use Rattle.walk.proofs.Backs.{back-goes, back_stops}
+use Rattle.std.proofs.Common.{ℕ, refl, ap, ◌∙◌, arith, rules, tests}
+use Rattle.walk.specs.Starts.{start_of}
+use Rattle.walk.proofs.Backs.{found}
 use Rattle.walk.proofs.starts.find_start.Goals as goal
 
-pub loop-at-preserved : goal.loop-at-preserved
-loop-at-preserved c =
-    let b = back-goes _ c.args.points.now c.loop-at.at _ (omega arith) c.goes_back.ensures c.loop-at-test.true in
-    (b.0, omega arith, b.1 ∙ c.loop-at.invariant.2)
+pub next_of-requires : goal.next_of-requires
+next_of-requires c =
+    rw c.unwrap_or-before.ensures
+    (found c.near_limit-near_limit.result c.args.points.now _ (λ x q k. search (rules, tests)) (λ x q k. (search rules, search (rules, tests))) _ _ c.rfind.result refl refl (omega arith) c.rfind.ensures.ran).0
 
-pub returns : goal.returns
-returns c = record {
-  value = back_stops _ c.args.points.now c.loop-at.at _ _ (omega arith) c.goes_back.ensures c.loop-at-test.false
-      c.loop-at.invariant.2 c.wrapped.ensures.value;
-  bound = c.wrapped.ensures.bound;
-}
+pub returns-clause-value : goal.returns-clause-value
+returns-clause-value c =
+    (found c.near_limit-near_limit.result c.args.points.now _ (λ x q k. search (rules, tests)) (λ x q k. (search rules, search (rules, tests))) _ _ c.rfind.result refl refl (omega arith) c.rfind.ensures.ran).1
+    c.next_of.result (search rules)
+    ∙ ap (λ (N : ℕ). start_of N c.args.points.now) c.near_limit-near_limit.ensures.value

@@ -1,17 +1,11 @@
 use Rattle.std.proofs.Common.{arith}
 use Rattle.drawing.specs.Books.{book}
-use Rattle.drawing.proofs.Joined.{appended_more, room-more, count-more}
+use Rattle.drawing.proofs.Joined.{appended_more, room-more}
 use Rattle.drawing.proofs.drawings.Drawing.append.Goals as goal
 
-pub append_one-requires : goal.append_one-requires
-append_one-requires c =
-    let entry = book c.args.self.now in
-    let ds = book c.args.other.now in
-    record {
-      there = omega (arith, c.requires.there);
-      points = room-more entry (book c.loop-k.self) ds c.args.from c.loop-k.k c.args.to c.loop-k.auto.k c.loop-k-test.true c.requires.there c.loop-k.invariant c.requires.points;
-      contours = count-more entry (book c.loop-k.self) ds c.args.from c.loop-k.k c.args.to c.loop-k.auto.k c.loop-k-test.true c.requires.there c.loop-k.invariant c.requires.contours;
-    }
+pub append_one-requires-clause-points : goal.append_one-requires-clause-points
+append_one-requires-clause-points c =
+    room-more (book c.args.self.now) (book c.loop-k.self) (book c.args.other.now) c.args.from c.loop-k.k c.args.to c.loop-k.auto.k c.loop-k-test.true c.requires.there c.loop-k.invariant c.requires.points
 
 pub loop-k-preserved : goal.loop-k-preserved
 loop-k-preserved c =

@@ -16,12 +16,8 @@ invariant_of-self c =
       inside = inside_push (vec_items self.points) _ c.args.point self.inside c.requires.inside c.push_reserved.ensures.items;
     }
 
-pub returns : goal.returns
-returns c =
+pub returns-clause-book : goal.returns-clause-book
+returns-clause-book c =
     let self = c.args.self.now in
-    record {
-      book = grown_book (vec_len self.points) (c.len-end.result + 1) (c.len-last.result - 1) _ (vec_items self.contours) c.index.result.now _ _ _ self.tiled (omega (arith, c.len-end.ensures)) self.points.ok.0
-          (omega (arith, self.contours.ok.0, c.len-last.ensures)) (ap (λ (x : Contour). x.first) c.index.ensures) c.push_reserved.ensures.items;
-      points = c.push_reserved.ensures.len;
-      contours = search rules;
-    }
+    grown_book (vec_len self.points) (c.len-end.result + 1) (c.len-last.result - 1) _ (vec_items self.contours) c.index.result.now _ _ _ self.tiled (omega (arith, c.len-end.ensures)) self.points.ok.0
+    (omega (arith, self.contours.ok.0, c.len-last.ensures)) (ap (λ (x : Contour). x.first) c.index.ensures) c.push_reserved.ensures.items

@@ -7,5 +7,5 @@ abbrev pub invariant-loop-i : goal.invariant-loop-i
 invariant-loop-i g l =
     (l.i-end ≤ 2048)
     × (vec_len l.self.points ≡ l.i)
-    × (vec_len l.self.contours ≤ l.most)
-    × (drawn_from l.most l.beyond (book l.self) (drop l.i (g.S.Source.list l.source)) ≡ drawn_from l.most l.beyond [] (g.S.Source.list l.source))
+    × (vec_len l.self.contours ≤ l.limit.most)
+    × (drawn_from l.limit.most l.limit.beyond (book l.self) (drop l.i (g.S.Source.list l.source)) ≡ drawn_from l.limit.most l.limit.beyond [] (g.S.Source.list l.source))

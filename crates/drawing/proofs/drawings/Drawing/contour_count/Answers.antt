@@ -1,9 +1,0 @@
-use Rattle.std.proofs.Common.{sym, ◌∙◌, arith}
-use Rattle.drawing.proofs.Held.{contours-held}
-use Rattle.drawing.proofs.drawings.Drawing.contour_count.Goals as goal
-
-pub returns : goal.returns
-returns c = record {
-  value = c.len.ensures ∙ sym (contours-held c.args.self.now);
-  few = omega (arith, c.len.ensures, c.args.self.now.few_contours);
-}

@@ -1,4 +1,0 @@
-pub mod Book
-pub mod Sheets
-pub mod Laws
-pub mod Alone

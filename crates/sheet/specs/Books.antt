@@ -1,8 +1,0 @@
--- What a drawing holds: its contours, each a list of points.
-use Rattle.std.specs.Prelude.{vec_items}
-use Rattle.sheet.specs.declared.drawings.Drawing.{Drawing}
-use Rattle.analysis.specs.Outlines.{cut_out}
-use Rattle.sheet.specs.Placing.{Contours}
-
-abbrev pub book : Drawing → Contours
-book d = cut_out (vec_items d.contours) (vec_items d.points)

@@ -56,12 +56,10 @@ fn draw_records(board: &mut Board, records: &[u8], ends: &[usize], reads: bool) 
 }
 
 fn make_moves(board: &mut Board, moves: &[Move], reads: bool) -> u64 {
-    let mut sum = 0u64;
-    for step in moves {
+    moves.iter().fold(0, |sum: u64, step| {
         let moved = board.move_point(step);
-        sum = sum.wrapping_add(and_reads(board, moved, reads));
-    }
-    sum
+        sum.wrapping_add(and_reads(board, moved, reads))
+    })
 }
 
 // Whether the record's points can be placed and read along both axes.

@@ -89,23 +89,15 @@ fn read_axis(
 }
 
 fn ask_point(heap: Global, sheet: &Sheet<CornerCode>, index: usize) -> anyhow::Result<Answer> {
-    let found = match sheet.point(index) {
-        Some(point) => Some(point_text(heap, index, &point)?),
-        None => None,
-    };
-    Answer::of_question(heap, found)
+    let found = sheet.point(index);
+    let text = found.map(|point| point_text(heap, index, &point));
+    Answer::of_question(heap, text.transpose()?)
 }
 
 fn ask_contour(heap: Global, sheet: &Sheet<CornerCode>, k: usize) -> anyhow::Result<Answer> {
-    let found = match sheet.contour(k) {
-        Some(contour) => {
-            let first = contour.first;
-            let end = contour.end;
-            Some(format!(in heap; "{first} {end}")?)
-        }
-        None => None,
-    };
-    Answer::of_question(heap, found)
+    let found = sheet.contour(k);
+    let text = found.map(|contour| format!(in heap; "{} {}", contour.first, contour.end));
+    Answer::of_question(heap, text.transpose()?)
 }
 
 fn play_call(heap: Global, sheet: &mut Sheet<CornerCode>, call: &Call) -> anyhow::Result<Answer> {

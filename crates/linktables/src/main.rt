@@ -37,18 +37,19 @@ fn stale_entry(dir: Direction, pos: i16, least: i16, greatest: i16) -> Segment {
     }
 }
 
+fn read_entry(words: &[&str; 4]) -> anyhow::Result<Segment> {
+    let [dir, pos, least, greatest] = words;
+    Ok(stale_entry(
+        direction(dir),
+        pos.parse()?,
+        least.parse()?,
+        greatest.parse()?,
+    ))
+}
+
 fn read_entries(heap: Global, words: &[&str]) -> anyhow::Result<Vec<Segment>> {
-    let mut table = Vec::new(heap);
     let (entries, _) = words.as_chunks::<4>();
-    for [dir, pos, least, greatest] in entries {
-        table.push(stale_entry(
-            direction(dir),
-            pos.parse()?,
-            least.parse()?,
-            greatest.parse()?,
-        ))?;
-    }
-    Ok(table)
+    entries.iter().map(read_entry).try_collect(heap)
 }
 
 fn linked_text(heap: Global, table: &[Segment]) -> Result<String, AllocError> {

@@ -1,4 +1,7 @@
 // The words in which values are told.
+ghost use Rattle.std.specs.Prelude.{Some, codes};
+ghost use Rattle.std.specs.Option.{option_map_or};
+
 use outline::{Orientation, PointKind};
 use std::fmt;
 
@@ -23,6 +26,8 @@ pub fn kind_word(kind: PointKind) -> &'static str {
 pub struct OrDash<T>(pub Option<T>);
 
 impl<T: fmt::Display> fmt::Display for OrDash<T> {
+    ghost output = { λ d. option_map_or T.output d.0 (Some (codes "-")) };
+
     fn fmt<W: fmt::Write>(&self, f: &mut fmt::Formatter<W>) -> fmt::Result {
         match &self.0 {
             Some(value) => write!(f, "{value}"),

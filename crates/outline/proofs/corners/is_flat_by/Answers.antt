@@ -12,4 +12,5 @@ returns g c =
     let d_in = simp (to_z-of_z, r.in_x, r.in_y, fits.0, fits.1) at c.length-d_in.ensures.value in
     let d_out = simp (to_z-of_z, r.out_x, r.out_y, fits.2, fits.3) at c.length-d_out.ensures.value in
     let d_corner = simp (to_z-of_z, r.in_x, r.in_y, r.out_x, r.out_y, fits.0, fits.1, fits.2, fits.3, sums.0, sums.1) at c.length-d_corner.ensures.value in
-    rw (← d_in, ← d_out, ← d_corner) c.is_hardly_longer.ensures
+    let e = c.is_hardly_longer.ensures in
+    cc

@@ -1,5 +1,4 @@
 // What each segment chooses, found in place.
-// `length ≤ 1001` stays a clause of each: a caller of a struct's method does not learn what is left in a slice lent to the struct.
 ghost use Rattle.std.specs.Prelude.{◌≡◌, ◌<◌, ◌≤◌, length, None};
 ghost use Rattle.linking.specs.Choices.{at as entry_at, holding};
 ghost use Rattle.linking.specs.Passes.{offered, met, entry as choice_entry, Passes, Shows};

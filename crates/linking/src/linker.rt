@@ -41,7 +41,7 @@ impl LinkFault {
     }
 }
 
-// Scores and links the first n entries, at checked settings; n stands beside the table, as it does in `link`.
+// Scores and links the first n entries, at checked settings.
 pub fn link_segments(table: &mut [Segment], n: usize, settings: &Settings, major: Direction)
     requires { (n ≤ length table.old) × (n ≤ 1001) }
     ensures table { table.new ≡ linked_table (rule_by settings.now major) n table.old }

@@ -66,7 +66,6 @@ fn is_flat_by<L: Length>(in_x: i32, in_y: i32, out_x: i32, out_y: i32) -> bool
     is_hardly_longer(d_in, d_out, d_corner)
 }
 
-// Two impls: one for each type with a length would leave no room for rules of other crates.
 impl CornerRule for Aot {
     ghost flat = { λ _. flat_by taxicab };
 

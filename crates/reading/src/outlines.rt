@@ -19,7 +19,6 @@ use linking::link_segments;
 use outline::{Contour, Direction, Orientation, Point, Settings};
 use segments::{Dimension, Segment, TABLE_LEN, build_segments, major_direction};
 
-// `Inside` and the count of points stay clauses of each call: a list of facts is no one test that a type could hold.
 // An analysed outline, lent: the records of its points, where its contours lie among them, and the way round that they are drawn.
 #[derive(Clone, Copy)]
 pub struct Outline<'a> {

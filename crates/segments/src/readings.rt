@@ -10,7 +10,6 @@ use crate::measures::Dimension;
 use crate::tables::Segment;
 use outline::{Contour, Point, Settings};
 
-// `Inside` and the count of points stay clauses of each call: a list of facts is no one test that a type could hold.
 // A table of this many entries has room for every reading that is granted.
 pub const TABLE_LEN: usize = 1001;
 

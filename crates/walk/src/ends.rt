@@ -10,7 +10,6 @@ use crate::starts::find_start;
 use outline::{DrawnPoint, Settings};
 
 // Finds the directions, the weak points and the chain of ends of a contour; `legs` is working room.
-// Room and marks are lent apart: a struct of both would set a limit to the points, and this has none.
 pub fn compute_directions(
     settings: &Settings,
     points: &[DrawnPoint],

@@ -31,7 +31,6 @@ impl Step {
         }
     }
 
-    // no operator, which would ask its bounds of every caller
     pub(crate) fn add(self, step: Step) -> Step
         requires { (taxicab self ≤ 2 ^ 16) × ((unsigned_abs step.dx ≤ 2 ^ 16) × (unsigned_abs step.dy ≤ 2 ^ 16)) }
         ensures value { result ≡ plus self step }

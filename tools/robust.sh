@@ -104,6 +104,8 @@ if cc -O1 -shared -fPIC -o "$work/adverse.so" "$root/tools/adverse.c" 2> /dev/nu
     }
     series 'the 1st, 2nd, .. 40th request for memory alone fails' '1: nothing,0: the card' "$(starve '')"
     series 'from the 1st, 2nd, .. 40th on, every request for memory fails' '1: nothing,0: the card' "$(starve -)"
+    (record=$root/examples/out_of_range.record && run_with MALLOC_FAILS=-5)
+    line 'a point out of range, and from the 5th on, every request for memory fails' '0: refused 14'
     run_with READ_MOST=1
     line 'input a byte at a time' '0: the card'
     run_with WRITE_MOST=1

@@ -3,6 +3,7 @@ use crate::digests::Digest;
 use drawing::EditFault;
 use sheet::Sheet;
 use std::alloc::{AllocError, Global};
+use std::io;
 use telling::sheet_text;
 use unscaled::CornerCode;
 
@@ -43,7 +44,7 @@ impl Answer {
     }
 
     // Of a question: what was found, if anything was.
-    pub fn of_question(heap: Global, found: Option<String>) -> anyhow::Result<Answer> {
+    pub fn of_question(heap: Global, found: Option<String>) -> Result<Answer, AllocError> {
         let text = match found {
             Some(text) => text,
             None => String::from_str(heap, "none")?,
@@ -55,7 +56,7 @@ impl Answer {
     }
 
     // Adds the digest of the sheet's whole text.
-    pub fn tell_sheet(&mut self, heap: Global, sheet: &Sheet<CornerCode>) -> anyhow::Result<()> {
+    pub fn tell_sheet(&mut self, heap: Global, sheet: &Sheet<CornerCode>) -> io::Result<()> {
         let whole = sheet_text(heap, sheet)?;
         let digest = Digest::of(whole.as_str());
         write!(self.text, " sheet {digest}")?;

@@ -9,6 +9,7 @@ use drawing::EditFault;
 use segments::Dimension;
 use sheet::Sheet;
 use std::alloc::Global;
+use std::io;
 use telling::point_text;
 use unscaled::{CornerCode, PointTable, RecordPoints, Source};
 
@@ -69,7 +70,7 @@ fn read_axis(
     sheet: &Sheet<CornerCode>,
     dimension: Dimension,
     len: usize,
-) -> anyhow::Result<Answer> {
+) -> io::Result<Answer> {
     let mut table = vec![in heap; stale_entry(); len]?;
     let (outcome, words, count) = match sheet.read(dimension, &mut table) {
         Ok(count) => (Outcome::Granted, format!(in heap; "ok {count}")?, count),
@@ -88,16 +89,16 @@ fn read_axis(
     })
 }
 
-fn ask_point(heap: Global, sheet: &Sheet<CornerCode>, index: usize) -> anyhow::Result<Answer> {
+fn ask_point(heap: Global, sheet: &Sheet<CornerCode>, index: usize) -> io::Result<Answer> {
     let found = sheet.point(index);
     let text = found.map(|point| point_text(heap, index, &point));
-    Answer::of_question(heap, text.transpose()?)
+    Ok(Answer::of_question(heap, text.transpose()?)?)
 }
 
-fn ask_contour(heap: Global, sheet: &Sheet<CornerCode>, k: usize) -> anyhow::Result<Answer> {
+fn ask_contour(heap: Global, sheet: &Sheet<CornerCode>, k: usize) -> io::Result<Answer> {
     let found = sheet.contour(k);
     let text = found.map(|contour| format!(in heap; "{} {}", contour.first, contour.end));
-    Answer::of_question(heap, text.transpose()?)
+    Ok(Answer::of_question(heap, text.transpose()?)?)
 }
 
 fn play_call(heap: Global, sheet: &mut Sheet<CornerCode>, call: &Call) -> anyhow::Result<Answer> {
@@ -110,9 +111,9 @@ fn play_call(heap: Global, sheet: &mut Sheet<CornerCode>, call: &Call) -> anyhow
             sheet.clear();
             Answer::of_edit(heap, Ok(()))
         }
-        Call::Read(dimension, len) => read_axis(heap, sheet, *dimension, *len),
-        Call::AskPoint(index) => ask_point(heap, sheet, *index),
-        Call::AskContour(k) => ask_contour(heap, sheet, *k),
+        Call::Read(dimension, len) => Ok(read_axis(heap, sheet, *dimension, *len)?),
+        Call::AskPoint(index) => Ok(ask_point(heap, sheet, *index)?),
+        Call::AskContour(k) => Ok(ask_contour(heap, sheet, *k)?),
     }
 }
 

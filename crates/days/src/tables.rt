@@ -25,9 +25,12 @@ pub fn stale_entry() -> Segment {
 
 // What the entries after the segments are.
 fn rest_word(rest: &[Segment]) -> &'static str {
-    if rest.iter().all(|entry| *entry == Segment::blank()) {
+    // made once: not for each entry that is looked at
+    let blank = Segment::blank();
+    let stale = stale_entry();
+    if rest.iter().all(|entry| *entry == blank) {
         "blank"
-    } else if rest.iter().all(|entry| *entry == stale_entry()) {
+    } else if rest.iter().all(|entry| *entry == stale) {
         "stale"
     } else {
         "mixed"

@@ -70,7 +70,7 @@ impl CornerRule for Aot {
     ghost flat = { λ _. flat_by taxicab };
 
     fn is_flat(&self, in_x: i32, in_y: i32, out_x: i32, out_y: i32) -> bool {
-        is_flat_by::<Self>(in_x, in_y, out_x, out_y)
+        is_flat_by::<Aot>(in_x, in_y, out_x, out_y)
     }
 }
 
@@ -78,6 +78,15 @@ impl CornerRule for Jit {
     ghost flat = { λ _. flat_by octagonal };
 
     fn is_flat(&self, in_x: i32, in_y: i32, out_x: i32, out_y: i32) -> bool {
-        is_flat_by::<Self>(in_x, in_y, out_x, out_y)
+        is_flat_by::<Jit>(in_x, in_y, out_x, out_y)
+    }
+}
+
+// A rule that is lent answers as the rule.
+impl<R: CornerRule> CornerRule for &R {
+    ghost flat = { λ rule. R.flat rule.now };
+
+    fn is_flat(&self, in_x: i32, in_y: i32, out_x: i32, out_y: i32) -> bool {
+        (**self).is_flat(in_x, in_y, out_x, out_y)
     }
 }

@@ -1,20 +1,18 @@
-// From the bytes of a drawing record to what is printed of them.
-ghost use Rattle.std.specs.Prelude.{◌≡◌, ◌≤◌, length, drop, IfOk, string_bytes, string_capacity};
+// From the bytes of a drawing record to what is printed of them, in room that is there.
+ghost use Rattle.std.specs.Prelude.{◌≡◌, ◌≤◌, length, drop, string_bytes, string_capacity};
 ghost use Rattle.unscaled.specs.Records.{entries};
 ghost use Rattle.card.specs.Cards.{card_text, refused_words};
 ghost use Rattle.card.specs.Lines.{line_of};
 ghost use Rattle.sheet.specs.Sheets.{contours_of, terms, Analysed, Fresh};
-ghost use Rattle.record_card.specs.Agreements.{Agrees};
 ghost use Rattle.record_card.specs.Refusals.{number};
 ghost use Rattle.record_card.specs.Printed.{read_by, contours_card, points_card, record_card, printed};
 
-use crate::refusals::{NoCard, Refusal};
+use crate::refusals::Refusal;
 use crate::rooms::{CardRoom, ReadingRoom};
-use card::{Card, refused_into, refused_text};
+use card::{Card, refused_into};
 use outline::CornerRule;
 use segments::{Dimension, Segment};
 use sheet::{Sheet, SheetRoom};
-use std::alloc::{AllocError, Global};
 use unscaled::{Header, RecordPoints};
 
 // The text of a card, where there is room for it.
@@ -127,25 +125,5 @@ impl CardRoom {
             Ok(text) => text,
             Err(fault) => refusal_in(refusal, fault),
         }
-    }
-}
-
-// The card of a record, or why it has none, in room of its own.
-pub fn read_card(heap: Global, bytes: &[u8]) -> Result<String, NoCard>
-    ensures { Agrees result string_bytes (record_card bytes.now) }
-{
-    // a record whose header is refused wants no room
-    Header::read(bytes).map_err(Refusal::from)?;
-    let card = CardRoom::new(heap)?.read_card(bytes)?;
-    Ok(card)
-}
-
-// The card of a record, or the text of its refusal, in room of its own.
-pub fn stem_card(heap: Global, bytes: &[u8]) -> Result<String, AllocError>
-    ensures { IfOk result (λ s. string_bytes s ≡ printed bytes.now) }
-{
-    match Header::read(bytes) {
-        Ok(_) => Ok(CardRoom::new(heap)?.stem_card(bytes)),
-        Err(fault) => refused_text(heap, Refusal::from(fault).number()),
     }
 }

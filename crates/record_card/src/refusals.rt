@@ -61,6 +61,30 @@ pub enum NoCard {
     Memory(AllocError),
 }
 
+impl From<RecordFault> for NoCard {
+    ghost from_gives = { λ fault r. r ≡ NotGranted (OfRecord fault) };
+
+    fn from(fault: RecordFault) -> NoCard {
+        NoCard::from(Refusal::from(fault))
+    }
+}
+
+impl From<EditFault> for NoCard {
+    ghost from_gives = { λ fault r. r ≡ NotGranted (OfEdit fault) };
+
+    fn from(fault: EditFault) -> NoCard {
+        NoCard::from(Refusal::from(fault))
+    }
+}
+
+impl From<ReadFault> for NoCard {
+    ghost from_gives = { λ fault r. r ≡ NotGranted (OfRead fault) };
+
+    fn from(fault: ReadFault) -> NoCard {
+        NoCard::from(Refusal::from(fault))
+    }
+}
+
 impl From<Refusal> for NoCard {
     ghost from_gives = { λ refusal r. r ≡ NotGranted refusal };
 

@@ -10,7 +10,7 @@ use std::io::{BufRead, BufReader};
 use std::{env, io};
 use stored::Stored;
 use telling::{Tally, from_hex};
-use texts::record_text;
+use texts::Teller;
 
 // Whether the program is asked to print answers, rather than to compare stored ones.
 fn asks_to_print(rt: &HostRuntime) -> io::Result<bool> {
@@ -20,9 +20,10 @@ fn asks_to_print(rt: &HostRuntime) -> io::Result<bool> {
 // Prints the answer to each line of hexadecimal digits.
 fn print_answers(rt: &HostRuntime) -> io::Result<()> {
     let heap = rt.alloc();
+    let mut teller = Teller::new();
     for line in BufReader::new(heap, rt.stdin())?.lines(heap) {
         let bytes = from_hex(heap, line?.as_bytes())?;
-        let mut text = record_text(heap, bytes.as_slice())?;
+        let mut text = teller.record_text(heap, bytes.as_slice())?;
         text.push_str("end\n")?;
         rt.print(text)?;
     }

@@ -2,7 +2,7 @@
 // line `end`.
 ghost use Rattle.std.specs.Prelude.{◌≡◌, ◌+◌, ◌-◌, ◌^◌, min, string_bytes, OnOk};
 
-use crate::texts::record_text;
+use crate::texts::Teller;
 use std::alloc::Global;
 use std::io;
 use telling::{Tally, from_hex};
@@ -10,6 +10,7 @@ use telling::{Tally, from_hex};
 // The record that is being read, and its answer so far.
 #[derive(Drop)]
 pub struct Stored {
+    teller: Teller,
     bytes: Vec<u8>,
     answer: String,
 }
@@ -17,6 +18,7 @@ pub struct Stored {
 impl Stored {
     pub fn new(heap: Global) -> Stored {
         Stored {
+            teller: Teller::new(),
             bytes: Vec::new(heap),
             answer: String::new(heap),
         }
@@ -38,7 +40,7 @@ impl Stored {
             self.bytes = from_hex(heap, digits.as_bytes())?;
             self.answer.clear();
         } else if line == "end" {
-            let own = record_text(heap, self.bytes.as_slice())?;
+            let own = self.teller.record_text(heap, self.bytes.as_slice())?;
             self.compare(own.as_str(), tally)?;
         } else {
             self.answer.push_str(line)?;

@@ -9,5 +9,5 @@ mod words;
 
 pub use digits::from_hex;
 pub use tallies::Tally;
-pub use texts::{point_text, push_segments, sheet_text};
+pub use texts::{built_sheet_text, point_text, push_segments, sheet_text};
 pub use words::OrDash;

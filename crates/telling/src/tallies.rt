@@ -32,8 +32,10 @@ impl Differing {
     // A line that one text lacks is held to the empty line.
     fn show_texts(&mut self, place: u64, expected: &str, own: &str) -> io::Result<()> {
         for pair in expected.lines().zip_longest(own.lines()) {
+            // an own line that the expected text lacks differs, even an empty one
+            let is_own_alone = !pair.has_left();
             let (line, own_line) = pair.or_default();
-            if line != own_line {
+            if is_own_alone || line != own_line {
                 self.show(place, line, own_line)?;
             }
         }

@@ -81,8 +81,38 @@ fn push_unread(out: &mut String, dimension: Dimension, fault: ReadFault) -> io::
     Ok(())
 }
 
-// What an axis answers, its segments as they are built, and then as a reading links them.
+fn push_answer<R: CornerRule>(
+    out: &mut String,
+    sheet: &Sheet<R>,
+    dimension: Dimension,
+    count: usize,
+) -> io::Result<()> {
+    out.writeln(AnswerLine {
+        dimension,
+        count,
+        major: sheet.major_direction(dimension),
+    })?;
+    Ok(())
+}
+
+// What an axis answers, and its segments by one reading: as they were built, and as it links them.
 fn push_axis<R: CornerRule>(
+    out: &mut String,
+    sheet: &Sheet<R>,
+    dimension: Dimension,
+    table: &mut [Segment],
+) -> io::Result<()> {
+    match sheet.read(dimension, table) {
+        Ok(count) => {
+            push_answer(out, sheet, dimension, count)?;
+            push_segments(out, dimension, &table[..count])
+        }
+        Err(fault) => push_unread(out, dimension, fault),
+    }
+}
+
+// The same, each by a call of its own: its segments as they are built, and then as a reading links them.
+fn push_axis_twice<R: CornerRule>(
     out: &mut String,
     sheet: &Sheet<R>,
     dimension: Dimension,
@@ -90,11 +120,7 @@ fn push_axis<R: CornerRule>(
 ) -> io::Result<()> {
     match sheet.build(dimension, table) {
         Ok(count) => {
-            out.writeln(AnswerLine {
-                dimension,
-                count,
-                major: sheet.major_direction(dimension),
-            })?;
+            push_answer(out, sheet, dimension, count)?;
             push_built(out, dimension, &table[..count])?;
         }
         Err(fault) => return push_unread(out, dimension, fault),
@@ -105,8 +131,8 @@ fn push_axis<R: CornerRule>(
     }
 }
 
-// The whole text of a sheet: its counts and orientation, its points, and both axes.
-pub fn sheet_text<R: CornerRule>(heap: Global, sheet: &Sheet<R>) -> io::Result<String> {
+// The counts and the orientation of a sheet, and its points.
+fn head_text<R: CornerRule>(heap: Global, sheet: &Sheet<R>) -> io::Result<String> {
     let mut out = String::new(heap);
     out.writeln(SheetLine {
         points: sheet.point_count(),
@@ -114,8 +140,23 @@ pub fn sheet_text<R: CornerRule>(heap: Global, sheet: &Sheet<R>) -> io::Result<S
         orientation: sheet.orientation(),
     })?;
     push_points(&mut out, sheet)?;
+    Ok(out)
+}
+
+// The whole text of a sheet: its counts and orientation, its points, and both axes, each read once.
+pub fn sheet_text<R: CornerRule>(heap: Global, sheet: &Sheet<R>) -> io::Result<String> {
+    let mut out = head_text(heap, sheet)?;
     let mut table = vec![in heap; Segment::blank(); TABLE_LEN]?;
     push_axis(&mut out, sheet, Dimension::Horizontal, &mut table)?;
     push_axis(&mut out, sheet, Dimension::Vertical, &mut table)?;
+    Ok(out)
+}
+
+// The same text, for which each axis is built and then read, so that a comparison covers both calls.
+pub fn built_sheet_text<R: CornerRule>(heap: Global, sheet: &Sheet<R>) -> io::Result<String> {
+    let mut out = head_text(heap, sheet)?;
+    let mut table = vec![in heap; Segment::blank(); TABLE_LEN]?;
+    push_axis_twice(&mut out, sheet, Dimension::Horizontal, &mut table)?;
+    push_axis_twice(&mut out, sheet, Dimension::Vertical, &mut table)?;
     Ok(out)
 }

@@ -1,5 +1,6 @@
 // The text of a record: every value that the library finds in it.
 use card::refused_text;
+use drawing::Drawing;
 use sheet::{Sheet, SheetRoom};
 use std::alloc::{AllocError, Global};
 use std::io;
@@ -30,6 +31,11 @@ impl Teller {
             Ok(header) => header,
             Err(fault) => return Ok(refused_text(heap, fault.number())?),
         };
+        // a record that is refused for its points wants no sheet
+        let mut drawing = Drawing::new(heap)?;
+        if let Err(fault) = drawing.draw(&RecordPoints::of_record(bytes)) {
+            return Ok(refused_text(heap, fault.number())?);
+        }
         let room = self.take_room(heap)?;
         let mut sheet = Sheet::in_room(room, header.settings, header.corner);
         let text = placed_text(heap, &mut sheet, bytes)?;

@@ -9,9 +9,3 @@ abbrev pub Agrees : {X Y : Type 0} → Result X NoCard → (X → Y) → Result 
 Agrees (Ok x) f s = Ok (f x) ≡ s
 Agrees (Err (Refused e)) f s = Err e ≡ s
 Agrees (Err (Memory m)) f s = Unit {0}
-
--- a refusal is what the rules give; of an answer nothing is said
-abbrev pub Declines : {X Y : Type 0} → Result X NoCard → Result Y Refusal → Type 0
-Declines (Ok x) s = Unit {0}
-Declines (Err (Refused e)) s = Err e ≡ s
-Declines (Err (Memory m)) s = Unit {0}

@@ -1,9 +1,10 @@
-// The same in memory that is asked for: a record that is refused for its points wants that of one drawing.
-ghost use Rattle.std.specs.Prelude.{◌≡◌, drop, IfOk, string_bytes};
+// The card of a record in memory that is asked for. A record that is refused for its points wants that of one drawing.
+ghost use Rattle.std.specs.Prelude.{◌≡◌, [], drop, IfOk, string_bytes};
 ghost use Rattle.unscaled.specs.Records.{entries};
-ghost use Rattle.sheet.specs.Book.{Terms};
-ghost use Rattle.record_card.specs.Agreements.{Agrees, Declines};
-ghost use Rattle.record_card.specs.Printed.{points_card, record_card, printed};
+ghost use Rattle.drawing.specs.Books.{book};
+ghost use Rattle.sheet.specs.Book.{placing, outcome};
+ghost use Rattle.record_card.specs.Agreements.{Agrees};
+ghost use Rattle.record_card.specs.Printed.{of_edit, record_card, printed};
 
 use crate::refusals::NoCard;
 use crate::rooms::CardRoom;
@@ -12,21 +13,22 @@ use drawing::Drawing;
 use std::alloc::{AllocError, Global};
 use unscaled::{Header, RecordPoints};
 
-// Refuses the points that a sheet would refuse.
-fn check_points(heap: Global, bytes: &[u8]) -> Result<(), NoCard>
-    ensures { (w : Terms) → Declines result (points_card w (entries (drop 8 bytes.now))) }
+// The record's points, drawn as on an empty sheet.
+fn record_drawing(heap: Global, bytes: &[u8]) -> Result<Drawing, NoCard>
+    ensures { Agrees result book (of_edit (outcome [] (placing (entries (drop 8 bytes.now))))) }
 {
     let mut drawing = Drawing::new(heap)?;
     drawing.draw(&RecordPoints::of_record(bytes))?;
-    Ok(())
+    Ok(drawing)
 }
 
 // The card of a record, or why it has none.
 pub fn read_card(heap: Global, bytes: &[u8]) -> Result<String, NoCard>
     ensures { Agrees result string_bytes (record_card bytes.now) }
 {
-    let _header = Header::read(bytes)?;
-    check_points(heap, bytes)?;
+    Header::read(bytes)?;
+    // for its refusal alone: what is drawn goes before a card's memory is asked for
+    record_drawing(heap, bytes)?;
     let card = CardRoom::new(heap)?.read_card(bytes)?;
     // as long as the text: the room's string has room for any card
     let text = String::from_str(heap, card.as_str())?;
